@@ -37,6 +37,10 @@ eqZ-false y z e q = true≢false (sym (eqZ-yes y z q) ∙ e)
 pub fit : {w : Width} {z : ℤ} → mag z < 2 ^ hbits w → SFits w z
 fit l = record { sfits = l }
 
+-- the number that the bits hold
+pub bits-back : (w : Width) (z : ℤ) → mag z < 2 ^ hbits w → toZ w (ofZ w z) ≡ z
+bits-back w z l = toZ-ofZ (fit l)
+
 -- the bits of a number that fits tell it
 pub bits-inj : (w : Width) (y z : ℤ) → SFits w y → SFits w z → ofZ w y ≡ ofZ w z → y ≡ z
 bits-inj w y z a b e = sym (toZ-ofZ a) ∙ ap (toZ w) e ∙ toZ-ofZ b

@@ -1,3 +1,4 @@
 pub mod Tests
 pub mod Integers
 pub mod Stretches
+pub mod Loops
