@@ -1,0 +1,3 @@
+pub mod Nans
+pub mod Agree
+pub mod Cases
