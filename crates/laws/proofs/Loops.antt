@@ -22,11 +22,11 @@ module _ {A : Type 0} where
 
   pub filling-on : {z : A} {a b : ℕ} {s₀ s : List A} {i : ℕ} → Filling z a b s₀ s i → i < b → b ≤ length s₀ → Filling z a b s₀ (set s i z) (i + 1)
   filling-on {z} {a} {b} {s₀} {s} {i} f l h = record {
-      from = omega arith;
-      upto = omega arith;
-      kept = length-set s i z ∙ f .kept;
-      is = ap (λ (t : List A). set t i z) (f .is) ∙ filled-suc z a i s₀ (f .from) (omega arith)
-    }
+    from = omega arith;
+    upto = omega arith;
+    kept = length-set s i z ∙ f .kept;
+    is = ap (λ (t : List A). set t i z) (f .is) ∙ filled-suc z a i s₀ (f .from) (omega arith);
+  }
 
   pub filling-done : {z : A} {a b : ℕ} {s₀ s : List A} {i : ℕ} → Filling z a b s₀ s i → b ≤ i → s ≡ filled z a b s₀
   filling-done {z} {a} {b} {s₀} {s} {i} f h = let e : i ≡ b = omega arith in rw (← e) (f .is)
@@ -42,10 +42,10 @@ module _ {A : Type 0} where
 
   pub copying-on : {s d₀ : List A} {n : ℕ} {d : List A} {i : ℕ} (z : A) → Copying s d₀ n d i → i < n → n ≤ length s → n ≤ length d₀ → Copying s d₀ n (set d i (getD s i z)) (i + 1)
   copying-on {s} {d₀} {n} {d} {i} z f l hs hd = record {
-      upto = omega arith;
-      kept = length-set d i (getD s i z) ∙ f .kept;
-      is = ap (λ (t : List A). set t i (getD s i z)) (f .is) ∙ over-suc s d₀ i z (omega arith) (omega arith)
-    }
+    upto = omega arith;
+    kept = length-set d i (getD s i z) ∙ f .kept;
+    is = ap (λ (t : List A). set t i (getD s i z)) (f .is) ∙ over-suc s d₀ i z (omega arith) (omega arith);
+  }
 
   pub copying-done : {s d₀ : List A} {n : ℕ} {d : List A} {i : ℕ} → Copying s d₀ n d i → n ≤ i → d ≡ over n s d₀
   copying-done {s} {d₀} {n} {d} {i} f h = let e : i ≡ n = omega arith in rw (← e) (f .is)

@@ -7,7 +7,7 @@ use native.Mathlib.Nat.{le-of-eq, zero-add, suc-add, add-zero}
 use native.Mathlib.Numerals.{add-one}
 use native.Mathlib.Omega.{arith}
 use lib.ListN.{length, getD, set, take, drop, replicate, length-append, length-drop, length-replicate, take-append-drop, replicate-append-replicate, drop-of-length-le, List·getD-append}
-use lib.Seq.{take-suc, take-all, drop-cons, append-snoc, set-at, take-at, drop-at, length-take-le, drop-drop, getD-take, getD-append-add, getD-drop}
+use lib.Seq.{take-suc, take-all, drop-cons, append-snoc, set-at, take-at, drop-at, length-take-le, drop-drop, getD-take, getD-append-add, sets, sets-eq}
 use borrow.Rule.Slice.PartMut.{putMid}
 use Rattle.laws.specs.Stretches.{over, put-at, filled}
 
@@ -78,6 +78,20 @@ module _ {A : Type 0} where
   -- the front of a list that was lent as a tail, put anew
   pub put-tail : (a : ℕ) (s xs : List A) → take a xs ++ (s ++ drop (length s) (drop a xs)) ≡ put-at a s xs
   put-tail a s xs = rw (drop-drop (length s) a xs)
+
+  put-front : (s xs : List A) → put-at 0 s xs ≡ s ++ drop (length s) xs
+  put-front s xs = rw (zero-add (length s))
+
+  -- one number after the other, from i on
+  pub sets-put : (i : ℕ) (s xs : List A) → i + length s ≤ length xs → sets xs i s ≡ put-at i s xs
+  sets-put i s xs h = sets-eq s xs i h ∙ append-assoc (take i xs) s (drop (i + length s) xs)
+
+  -- a tail that was lent, and came back with s at its front
+  pub put-lent : (a : ℕ) (s xs ys : List A) → ys ≡ put-at 0 s (take (length xs - a) (drop a xs)) → putMid a (length xs - a) xs ys ≡ put-at a s xs
+  put-lent a s xs ys e =
+      tail-back a xs ys
+      ∙ ap (λ (l : List A). take a xs ++ l) (e ∙ ap (put-at 0 s) (tail-out a xs) ∙ put-front s (drop a xs))
+      ∙ put-tail a s xs
 
   pub length-put-at : (a : ℕ) (s xs : List A) → a + length s ≤ length xs → length (put-at a s xs) ≡ length xs
   length-put-at a s xs h =

@@ -1,0 +1,2 @@
+pub mod Halfedges
+pub mod Triples

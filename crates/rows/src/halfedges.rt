@@ -1,0 +1,190 @@
+// Half-edge rows of four numbers each: start, end, pair and prop.
+ghost use mathlib.Core.Path.{_≡_};
+ghost use mathlib.Core.Bool.{Bool, _&&_, not};
+ghost use Prim.Native.Nat.{_+_, _*_, _<_, _≤_, _^_};
+ghost use lib.IntN.{pos};
+ghost use lib.Signed.{leZ};
+ghost use lib.ListN.{length, getD, set};
+ghost use Rattle.laws.specs.Integers.{eqZ};
+ghost use Rattle.numbers.specs.Numbers.{names, halfedgeNumber, vertexNumber, propRowNumber, halfedgeNamed, vertexNamed, propRowNamed};
+ghost use Rattle.rows.specs.Halfedges.{startOf, endOf, pairOf, propOf, start, end, pair, prop, set-column, none, empty-row, lent-halfedges, rows-from, append-row, over-rows, zero-rows, width};
+use numbers::Halfedge;
+use numbers::NamedHalfedge;
+use numbers::NamedPropRow;
+use numbers::NamedVertex;
+use numbers::PropRow;
+use numbers::Vertex;
+
+const WIDTH: usize = 4;
+
+const START: usize = 0;
+
+const END: usize = 1;
+
+const PAIR: usize = 2;
+
+const PROP: usize = 3;
+
+// The four numbers of a row as they stand there.
+pub struct Row {
+    pub start: i32,
+    pub end: i32,
+    pub pair: i32,
+    pub prop: i32,
+}
+
+// How many rows are lent.
+pub fn lent(rows: &[i32]) -> usize
+    ensures { λ r. ⌜ r ≡ lent-halfedges (now (rows .entry)) ⌝ }
+{
+    rows.len() / WIDTH
+}
+
+// The vertex where h starts, among `vertices`.
+pub fn start_of(rows: &[i32], h: Halfedge, vertices: usize) -> NamedVertex
+    requires { ⌜ halfedgeNumber h < lent-halfedges (now rows) ⌝ }
+    ensures { λ r. ⌜ vertexNamed r ≡ names (startOf (now (rows .entry)) (halfedgeNumber h)) vertices ⌝ }
+{
+    let i = WIDTH * h.number() + START;
+    numbers::vertex_read(rows[i], vertices)
+}
+
+// The vertex where h ends, among `vertices`.
+pub fn end_of(rows: &[i32], h: Halfedge, vertices: usize) -> NamedVertex
+    requires { ⌜ halfedgeNumber h < lent-halfedges (now rows) ⌝ }
+    ensures { λ r. ⌜ vertexNamed r ≡ names (endOf (now (rows .entry)) (halfedgeNumber h)) vertices ⌝ }
+{
+    let i = WIDTH * h.number() + END;
+    numbers::vertex_read(rows[i], vertices)
+}
+
+// The partner of h, among `halfedges`.
+pub fn pair_of(rows: &[i32], h: Halfedge, halfedges: usize) -> NamedHalfedge
+    requires { ⌜ halfedgeNumber h < lent-halfedges (now rows) ⌝ }
+    ensures { λ r. ⌜ halfedgeNamed r ≡ names (pairOf (now (rows .entry)) (halfedgeNumber h)) halfedges ⌝ }
+{
+    let i = WIDTH * h.number() + PAIR;
+    numbers::halfedge_read(rows[i], halfedges)
+}
+
+// The property row of h, among `properties`.
+pub fn prop_of(rows: &[i32], h: Halfedge, properties: usize) -> NamedPropRow
+    requires { ⌜ halfedgeNumber h < lent-halfedges (now rows) ⌝ }
+    ensures { λ r. ⌜ propRowNamed r ≡ names (propOf (now (rows .entry)) (halfedgeNumber h)) properties ⌝ }
+{
+    let i = WIDTH * h.number() + PROP;
+    numbers::prop_row_read(rows[i], properties)
+}
+
+// Writes a number that a signed one can hold.
+fn put(rows: &mut [i32], i: usize, n: usize)
+    requires { ⌜ (i < length (now rows)) × (n < 2 ^ 31) ⌝ }
+    ensures { λ _. ⌜ now (rows .exit) ≡ set (now (rows .entry)) i (pos n) ⌝ }
+{
+    rows[i] = n as i32;
+}
+
+// Writes −1.
+fn put_none(rows: &mut [i32], i: usize)
+    requires { ⌜ i < length (now rows) ⌝ }
+    ensures { λ _. ⌜ now (rows .exit) ≡ set (now (rows .entry)) i none ⌝ }
+{
+    rows[i] = -1;
+}
+
+pub fn set_start(rows: &mut [i32], h: Halfedge, v: Vertex)
+    requires { ⌜ (halfedgeNumber h < lent-halfedges (now rows)) × (vertexNumber v < 2 ^ 31) ⌝ }
+    ensures { λ _. ⌜ now (rows .exit) ≡ set-column start (halfedgeNumber h) (pos (vertexNumber v)) (now (rows .entry)) ⌝ }
+{
+    put(rows, WIDTH * h.number() + START, v.number());
+}
+
+pub fn set_end(rows: &mut [i32], h: Halfedge, v: Vertex)
+    requires { ⌜ (halfedgeNumber h < lent-halfedges (now rows)) × (vertexNumber v < 2 ^ 31) ⌝ }
+    ensures { λ _. ⌜ now (rows .exit) ≡ set-column end (halfedgeNumber h) (pos (vertexNumber v)) (now (rows .entry)) ⌝ }
+{
+    put(rows, WIDTH * h.number() + END, v.number());
+}
+
+pub fn set_pair(rows: &mut [i32], h: Halfedge, p: Halfedge)
+    requires { ⌜ (halfedgeNumber h < lent-halfedges (now rows)) × (halfedgeNumber p < 2 ^ 31) ⌝ }
+    ensures { λ _. ⌜ now (rows .exit) ≡ set-column pair (halfedgeNumber h) (pos (halfedgeNumber p)) (now (rows .entry)) ⌝ }
+{
+    put(rows, WIDTH * h.number() + PAIR, p.number());
+}
+
+pub fn set_prop(rows: &mut [i32], h: Halfedge, p: PropRow)
+    requires { ⌜ (halfedgeNumber h < lent-halfedges (now rows)) × (propRowNumber p < 2 ^ 31) ⌝ }
+    ensures { λ _. ⌜ now (rows .exit) ≡ set-column prop (halfedgeNumber h) (pos (propRowNumber p)) (now (rows .entry)) ⌝ }
+{
+    put(rows, WIDTH * h.number() + PROP, p.number());
+}
+
+// Empties start, end and pair of h, and keeps its prop.
+pub fn empty(rows: &mut [i32], h: Halfedge)
+    requires { ⌜ halfedgeNumber h < lent-halfedges (now rows) ⌝ }
+    ensures { λ _. ⌜ now (rows .exit) ≡ empty-row (halfedgeNumber h) (now (rows .entry)) ⌝ }
+{
+    let i = WIDTH * h.number();
+    put_none(rows, i + START);
+    put_none(rows, i + END);
+    put_none(rows, i + PAIR);
+}
+
+// Empties the prop of h.
+pub fn empty_prop(rows: &mut [i32], h: Halfedge)
+    requires { ⌜ halfedgeNumber h < lent-halfedges (now rows) ⌝ }
+    ensures { λ _. ⌜ now (rows .exit) ≡ set-column prop (halfedgeNumber h) none (now (rows .entry)) ⌝ }
+{
+    put_none(rows, WIDTH * h.number() + PROP);
+}
+
+// The part that starts at row h.
+pub fn from_row(rows: &[i32], h: Halfedge) -> &[i32]
+    requires { ⌜ halfedgeNumber h < lent-halfedges (now rows) ⌝ }
+    ensures { λ r. ⌜ now r ≡ rows-from (halfedgeNumber h) (now (rows .entry)) ⌝ }
+{
+    let i = WIDTH * h.number();
+    &rows[i..]
+}
+
+// Writes a row at the front of the free rows.
+fn put_front(free: &mut [i32], row: Row)
+    requires { ⌜ width ≤ length (now free) ⌝ }
+    ensures { λ _. ⌜ now (free .exit) ≡ append-row 0 row (now (free .entry)) ⌝ }
+{
+    let start = row.start;
+    let end = row.end;
+    let pair = row.pair;
+    let prop = row.prop;
+    free[START] = start;
+    free[END] = end;
+    free[PAIR] = pair;
+    free[PROP] = prop;
+}
+
+// Appends a row: the tail from the rows in use on is lent to be written.
+pub fn append(rows: &mut [i32], used: usize, row: Row) -> Halfedge
+    requires { ⌜ used < lent-halfedges (now rows) ⌝ }
+    ensures { λ r. ⌜ (now (rows .exit) ≡ append-row used row (now (rows .entry))) × (halfedgeNumber r ≡ used) ⌝ }
+{
+    let i = WIDTH * used;
+    put_front(&mut rows[i..], row);
+    numbers::halfedge_appended(used)
+}
+
+// Lays the first n rows of `from` over `to`: the rows in use to a spare, and back.
+pub fn copy(from: &[i32], to: &mut [i32], n: usize)
+    requires { ⌜ (n ≤ lent-halfedges (now from)) × (n ≤ lent-halfedges (now to)) ⌝ }
+    ensures { λ _. ⌜ now (to .exit) ≡ over-rows n (now (from .entry)) (now (to .entry)) ⌝ }
+{
+    stretches::copy_i32(from, to, WIDTH * n);
+}
+
+// Zeroes rows a up to b.
+pub fn zero(rows: &mut [i32], a: usize, b: usize)
+    requires { ⌜ (a ≤ b) × (b ≤ lent-halfedges (now rows)) ⌝ }
+    ensures { λ _. ⌜ now (rows .exit) ≡ zero-rows a b (now (rows .entry)) ⌝ }
+{
+    stretches::zero_i32(rows, WIDTH * a, WIDTH * b);
+}
