@@ -34,6 +34,11 @@ abbrev pub names : ℤ → ℕ → Named
 names (pos n) limit = cond (ltb n limit) (at n) nothing
 names (negsuc n) limit = nothing
 
+-- it names one
+abbrev pub is-named : Named → Bool
+is-named (at n) = true
+is-named nothing = false
+
 abbrev pub placed : Place → Named
 placed (P.At i) = at i
 placed P.Nothing = nothing

@@ -4,7 +4,7 @@
 // besides, a caller's number after its test, a scan's counter and the number of an appended row.
 ghost use mathlib.Core.Path.{_≡_};
 ghost use Prim.Native.Nat.{_<_};
-ghost use Rattle.numbers.specs.Numbers.{halfedgeNumber, vertexNumber, propRowNumber, names, placed, halfedgeNamed, vertexNamed, propRowNamed};
+ghost use Rattle.numbers.specs.Numbers.{halfedgeNumber, vertexNumber, propRowNumber, names, is-named, placed, halfedgeNamed, vertexNamed, propRowNamed};
 ghost use Rattle.numbers.specs.Next.{next, nextAnswer, nextSaid, triAnswer, triSaid, most-halfedges};
 
 pub struct Halfedge(usize);
@@ -46,6 +46,16 @@ fn place_of(x: i32, limit: usize) -> Place
         Place::At(i)
     } else {
         Place::Nothing
+    }
+}
+
+// A row's number is one of 0..limit.
+pub fn is_within(x: i32, limit: usize) -> bool
+    ensures { λ r. ⌜ r ≡ is-named (names x limit) ⌝ }
+{
+    match place_of(x, limit) {
+        Place::At(_) => true,
+        Place::Nothing => false,
     }
 }
 

@@ -1,9 +1,12 @@
 -- Half-edge rows: each holds start, end, pair and prop, one row behind the other in the lent array. This file alone knows how
 -- wide a row is and where in it a column stands.
+use mathlib.Core.Bool.{Bool, _&&_}
 use mathlib.Core.List.{List, [], _∷_}
 use Prim.Native.Nat.{ℕ, _+_, _*_, _/_}
 use lib.IntN.{ℤ, pos, negsuc}
 use lib.ListN.{length, getD, set, drop}
+use lib.Signed.{leZ}
+use Rattle.laws.specs.Integers.{eqZ}
 use Rattle.laws.specs.Stretches.{over, put-at, filled}
 use Rattle.rows.specs.declared.halfedges.Row.{Row}
 
@@ -44,6 +47,13 @@ propOf rows h = column prop rows h
 -- what an emptied column holds: −1
 abbrev pub none : ℤ
 none = negsuc 0
+
+-- tests of a row: start, end and pair are empty; the pair is 0 or more
+abbrev pub is-empty : List ℤ → ℕ → Bool
+is-empty rows h = eqZ (startOf rows h) none && eqZ (endOf rows h) none && eqZ (pairOf rows h) none
+
+abbrev pub is-paired : List ℤ → ℕ → Bool
+is-paired rows h = leZ (pos 0) (pairOf rows h)
 
 -- row h with start, end and pair emptied
 abbrev pub empty-row : ℕ → List ℤ → List ℤ

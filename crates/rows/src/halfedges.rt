@@ -1,11 +1,8 @@
 // Half-edge rows of four numbers each: start, end, pair and prop.
 ghost use mathlib.Core.Path.{_≡_};
-ghost use mathlib.Core.Bool.{Bool, _&&_, not};
-ghost use Prim.Native.Nat.{_+_, _*_, _<_, _≤_, _^_};
+ghost use Prim.Native.Nat.{_<_, _≤_, _^_};
 ghost use lib.IntN.{pos};
-ghost use lib.Signed.{leZ};
-ghost use lib.ListN.{length, getD, set};
-ghost use Rattle.laws.specs.Integers.{eqZ};
+ghost use lib.ListN.{length, set};
 ghost use Rattle.numbers.specs.Numbers.{names, halfedgeNumber, vertexNumber, propRowNumber, halfedgeNamed, vertexNamed, propRowNamed};
 ghost use Rattle.rows.specs.Halfedges.{startOf, endOf, pairOf, propOf, start, end, pair, prop, set-column, none, empty-row, lent-halfedges, rows-from, append-row, over-rows, zero-rows, width};
 use numbers::Halfedge;

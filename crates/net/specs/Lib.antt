@@ -1,0 +1,3 @@
+pub mod Net
+pub mod Counts
+pub mod Sound

@@ -1,0 +1,113 @@
+// Tests of the rows of one triangle, which are read as a stretch: `tri` is the part of the half-edge array that starts at
+// the triangle's first row, and its corners are numbered 0, 1 and 2.
+ghost use mathlib.Core.Path.{_≡_};
+ghost use mathlib.Core.Bool.{_&&_};
+ghost use Prim.Native.Nat.{_<_, _^_};
+ghost use lib.IntN.{pos};
+ghost use lib.ListN.{length, getD};
+ghost use lib.Signed.{leZ};
+ghost use Rattle.laws.specs.Integers.{eqZ};
+ghost use Rattle.numbers.specs.Numbers.{names, halfedgeNumber, halfedgeNamed, is-named};
+ghost use Rattle.rows.specs.Halfedges.{startOf, endOf, pairOf, none, is-empty, is-paired, lent-halfedges};
+use numbers::Halfedge;
+use numbers::NamedHalfedge;
+
+const WIDTH: usize = 4;
+
+const START: usize = 0;
+
+const END: usize = 1;
+
+const PAIR: usize = 2;
+
+// The number at i is −1.
+fn none_at(s: &[i32], i: usize) -> bool
+    requires { ⌜ i < length (now s) ⌝ }
+    ensures { λ r. ⌜ r ≡ eqZ (getD (now (s .entry)) i (pos 0)) none ⌝ }
+{
+    s[i] == -1
+}
+
+// The number at i is n.
+fn is_at(s: &[i32], i: usize, n: usize) -> bool
+    requires { ⌜ (i < length (now s)) × (n < 2 ^ 31) ⌝ }
+    ensures { λ r. ⌜ r ≡ eqZ (getD (now (s .entry)) i (pos 0)) (pos n) ⌝ }
+{
+    let x = n as i32;
+    s[i] == x
+}
+
+// The numbers at i of one array and j of another agree.
+fn same_at(s: &[i32], i: usize, t: &[i32], j: usize) -> bool
+    requires { ⌜ (i < length (now s)) × (j < length (now t)) ⌝ }
+    ensures { λ r. ⌜ r ≡ eqZ (getD (now (s .entry)) i (pos 0)) (getD (now (t .entry)) j (pos 0)) ⌝ }
+{
+    s[i] == t[j]
+}
+
+// The number at i is one of 0..limit.
+fn within_at(s: &[i32], i: usize, limit: usize) -> bool
+    requires { ⌜ i < length (now s) ⌝ }
+    ensures { λ r. ⌜ r ≡ is-named (names (getD (now (s .entry)) i (pos 0)) limit) ⌝ }
+{
+    numbers::is_within(s[i], limit)
+}
+
+// Start, end and pair of the corner are −1.
+pub fn empty(tri: &[i32], k: usize) -> bool
+    requires { ⌜ k < lent-halfedges (now tri) ⌝ }
+    ensures { λ r. ⌜ r ≡ is-empty (now (tri .entry)) k ⌝ }
+{
+    none_at(tri, WIDTH * k + START) & none_at(tri, WIDTH * k + END) & none_at(tri, WIDTH * k + PAIR)
+}
+
+// The corner has a pair that is 0 or more.
+pub fn paired(tri: &[i32], k: usize) -> bool
+    requires { ⌜ k < lent-halfedges (now tri) ⌝ }
+    ensures { λ r. ⌜ r ≡ is-paired (now (tri .entry)) k ⌝ }
+{
+    0 <= tri[WIDTH * k + PAIR]
+}
+
+// Two corners start at the same vertex.
+pub fn same_start(tri: &[i32], j: usize, k: usize) -> bool
+    requires { ⌜ (j < lent-halfedges (now tri)) × (k < lent-halfedges (now tri)) ⌝ }
+    ensures { λ r. ⌜ r ≡ eqZ (startOf (now (tri .entry)) j) (startOf (now (tri .entry)) k) ⌝ }
+{
+    same_at(tri, WIDTH * j + START, tri, WIDTH * k + START)
+}
+
+// Corner j ends where corner k starts.
+pub fn joined(tri: &[i32], j: usize, k: usize) -> bool
+    requires { ⌜ (j < lent-halfedges (now tri)) × (k < lent-halfedges (now tri)) ⌝ }
+    ensures { λ r. ⌜ r ≡ eqZ (endOf (now (tri .entry)) j) (startOf (now (tri .entry)) k) ⌝ }
+{
+    same_at(tri, WIDTH * j + END, tri, WIDTH * k + START)
+}
+
+// The corner starts and ends at one of `vertices`.
+pub fn within(tri: &[i32], k: usize, vertices: usize) -> bool
+    requires { ⌜ k < lent-halfedges (now tri) ⌝ }
+    ensures { λ r. ⌜ r ≡ is-named (names (startOf (now (tri .entry)) k) vertices) && is-named (names (endOf (now (tri .entry)) k) vertices) ⌝ }
+{
+    within_at(tri, WIDTH * k + START, vertices) & within_at(tri, WIDTH * k + END, vertices)
+}
+
+// The corner's partner, among `halfedges`.
+pub fn partner(tri: &[i32], k: usize, halfedges: usize) -> NamedHalfedge
+    requires { ⌜ k < lent-halfedges (now tri) ⌝ }
+    ensures { λ r. ⌜ halfedgeNamed r ≡ names (pairOf (now (tri .entry)) k) halfedges ⌝ }
+{
+    numbers::halfedge_read(tri[WIDTH * k + PAIR], halfedges)
+}
+
+// Row p has h as its pair, and the corner's ends exchanged.
+pub fn mirrored(tri: &[i32], k: usize, rows: &[i32], h: Halfedge, p: Halfedge) -> bool
+    requires { ⌜ (k < lent-halfedges (now tri)) × ((halfedgeNumber p < lent-halfedges (now rows)) × (halfedgeNumber h < 2 ^ 31)) ⌝ }
+    ensures { λ r. ⌜ r ≡ eqZ (pairOf (now (rows .entry)) (halfedgeNumber p)) (pos (halfedgeNumber h)) && eqZ (startOf (now (rows .entry)) (halfedgeNumber p)) (endOf (now (tri .entry)) k) && eqZ (endOf (now (rows .entry)) (halfedgeNumber p)) (startOf (now (tri .entry)) k) ⌝ }
+{
+    let i = WIDTH * p.number();
+    is_at(rows, i + PAIR, h.number())
+        & same_at(rows, i + START, tri, WIDTH * k + END)
+        & same_at(rows, i + END, tri, WIDTH * k + START)
+}
