@@ -3,7 +3,7 @@
 use mathlib.Core.List.{List, [], _∷_}
 use Prim.Native.Nat.{ℕ, _+_, _*_, _/_}
 use lib.IntN.{ℤ, pos}
-use lib.ListN.{length, getD}
+use lib.ListN.{length, getD, drop}
 use Rattle.laws.specs.Stretches.{over, put-at, filled}
 use Rattle.rows.specs.declared.triples.Bits3.{Bits3}
 use Rattle.rows.specs.declared.triples.Reference.{Reference}
@@ -29,6 +29,10 @@ reference rows t = record {
 
 unfoldable pub put-reference : ℕ → Reference → List ℤ → List ℤ
 put-reference t r rows = put-at (3 * t) (r .mesh ∷ r .coplanar ∷ r .face ∷ []) rows
+
+-- the rows from row n on
+unfoldable pub triples-from : ℕ → List ℕ → List ℕ
+triples-from n rows = drop (3 * n) rows
 
 -- the first n rows of s laid over d; rows a up to b zero
 unfoldable pub over-triples : ℕ → List ℕ → List ℕ → List ℕ
