@@ -9,7 +9,7 @@ use lib.IntN.{ℤ, pos, negsuc}
 use Rattle.laws.proofs.Tests.{by-test}
 use Rattle.numbers.specs.Numbers.{Named, at, nothing, names}
 
-at-inj : {m n : ℕ} → at m ≡ at n → m ≡ n
+pub at-inj : {m n : ℕ} → at m ≡ at n → m ≡ n
 at-inj e = cc
 
 pub nothing-not-at {ℓ} : {P : Type ℓ} {n : ℕ} → nothing ≡ at n → P
