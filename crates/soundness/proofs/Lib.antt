@@ -1,2 +1,4 @@
 pub mod Search
 pub mod Triangle
+pub mod Right
+pub mod Told

@@ -5,7 +5,10 @@ ghost use Prim.Native.Nat.{_%_, _<_, _≤_, _^_};
 ghost use Rattle.numbers.specs.Next.{most-halfedges};
 ghost use Rattle.numbers.specs.Numbers.{halfedgeNamed, halfedgeNumber, names};
 ghost use Rattle.rows.specs.Halfedges.{lent-halfedges, pairOf};
+ghost use Rattle.net.specs.Net.{net};
+ghost use Rattle.soundness.specs.Check.{checkNet, checkSaid};
 ghost use Rattle.soundness.specs.Order.{empty3, paired3, apart3, mirrored-by, live, in-order, first-failing, least-out, TriangleAt};
+use net::Counts;
 use numbers::Halfedge;
 use numbers::NamedHalfedge;
 use rows::corners;
@@ -112,4 +115,38 @@ pub fn first_out(rows: &[i32], halfedges: usize, vertices: usize) -> NamedHalfed
         }
     }
     NamedHalfedge::Nothing
+}
+
+// What check_net answers: sound, a shape that does not fit, or the least row that is not in order.
+pub enum Checked {
+    Sound,
+    Shape,
+    Unsound(Halfedge),
+}
+
+// The entry check_net.
+pub fn check_net(
+    counts: Counts,
+    halfedges: &[i32],
+    positions: &[u64],
+    normals: &[u64],
+    references: &[i32],
+    properties: &[u64],
+) -> Checked
+    ensures { λ r. ⌜ checkSaid r ≡ checkNet counts (net (now (halfedges .entry)) (now (positions .entry)) (now (normals .entry)) (now (references .entry)) (now (properties .entry))) ⌝ }
+{
+    if !net::shaped(
+        counts,
+        halfedges,
+        positions,
+        normals,
+        references,
+        properties,
+    ) {
+        return Checked::Shape;
+    }
+    match first_out(halfedges, counts.halfedges, counts.vertices) {
+        NamedHalfedge::At(h) => Checked::Unsound(h),
+        NamedHalfedge::Nothing => Checked::Sound,
+    }
 }
