@@ -1,6 +1,6 @@
 -- The used counts of a net, the bounds, the capacities, and when they fit one another: whatever calls for answer 1 is a field of
 -- `Shaped` that fails.
-use mathlib.Core.Bool.{Bool, true, false, cond, _&&_, _||_}
+use mathlib.Core.Bool.{Bool, cond, _&&_, _||_}
 use mathlib.Core.List.{List}
 use mathlib.Core.Logic.{_⊎_}
 use mathlib.Core.Path.{_≡_}
@@ -33,24 +33,36 @@ abbrev pub triangles-for : ℕ → ℕ → ℕ
 triangles-for used lent = cond (eqb used 0) most-triangles lent
 
 -- a capacity is the lent rows or the bound, whichever is less; triangle capacity is the least over half-edges (by thirds) and
--- non-empty references and normals; half-edge capacity is three times it
-unfoldable pub triangle-capacity : Counts → Net → ℕ
-triangle-capacity c n =
-    min (min (lent-halfedges (n .halfedges) / 3) most-triangles)
-    (min (triangles-for (c .references) (lent-triples (n .references))) (triangles-for (c .normals) (lent-triples (n .normals))))
+-- non-empty references and normals; half-edge capacity is three times it. Each is said of the arrays that it is over, then of a net.
+unfoldable pub triangle-capacity-over : Counts → List ℤ → List ℕ → List ℤ → ℕ
+triangle-capacity-over c halfedges normals references =
+    min (min (lent-halfedges halfedges / 3) most-triangles)
+    (min (triangles-for (c .references) (lent-triples references)) (triangles-for (c .normals) (lent-triples normals)))
 
-abbrev pub halfedge-capacity : Counts → Net → ℕ
-halfedge-capacity c n = 3 * triangle-capacity c n
+abbrev pub halfedge-capacity-over : Counts → List ℤ → List ℕ → List ℤ → ℕ
+halfedge-capacity-over c halfedges normals references = 3 * triangle-capacity-over c halfedges normals references
 
-unfoldable pub vertex-capacity : Net → ℕ
-vertex-capacity n = min (lent-triples (n .positions)) most-vertices
+unfoldable pub vertex-capacity-over : List ℕ → ℕ
+vertex-capacity-over positions = min (lent-triples positions) most-vertices
 
 -- a property row with no number in it takes no room
 abbrev pub lent-properties : ℕ → List ℕ → ℕ
-lent-properties num-prop rows = cond (eqb num-prop 0) most-properties (length rows / num-prop)
+lent-properties num-prop properties = cond (eqb num-prop 0) most-properties (length properties / num-prop)
 
-unfoldable pub property-capacity : Counts → Net → ℕ
-property-capacity c n = min (lent-properties (c .«num_prop») (n .properties)) most-properties
+unfoldable pub property-capacity-over : Counts → List ℕ → ℕ
+property-capacity-over c properties = min (lent-properties (c .«num_prop») properties) most-properties
+
+abbrev pub triangle-capacity : Counts → Net → ℕ
+triangle-capacity c n = triangle-capacity-over c (n .halfedges) (n .normals) (n .references)
+
+abbrev pub halfedge-capacity : Counts → Net → ℕ
+halfedge-capacity c n = halfedge-capacity-over c (n .halfedges) (n .normals) (n .references)
+
+abbrev pub vertex-capacity : Net → ℕ
+vertex-capacity n = vertex-capacity-over (n .positions)
+
+abbrev pub property-capacity : Counts → Net → ℕ
+property-capacity c n = property-capacity-over c (n .properties)
 
 pub record Shaped (c : Counts) (n : Net) : Type 0 where
   pub thirds : c .halfedges % 3 ≡ 0

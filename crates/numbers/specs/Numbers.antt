@@ -39,6 +39,11 @@ abbrev pub is-named : Named → Bool
 is-named (at n) = true
 is-named nothing = false
 
+-- go on with the row that is named, or refuse
+abbrev pub named-or : {A : Type 0} → A → Named → (ℕ → A) → A
+named-or refusal (at n) f = f n
+named-or refusal nothing f = refusal
+
 abbrev pub placed : Place → Named
 placed (P.At i) = at i
 placed P.Nothing = nothing

@@ -2,3 +2,4 @@ pub mod Search
 pub mod Triangle
 pub mod Right
 pub mod Told
+pub mod Cases
