@@ -1,0 +1,10 @@
+pub mod Cases
+pub mod Net
+pub mod Inv
+pub mod Rows
+pub mod Positions
+pub mod Split
+pub mod Count
+pub mod After
+pub mod Clear
+pub mod Told

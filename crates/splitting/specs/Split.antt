@@ -1,0 +1,71 @@
+-- The entry split_pinched_verts for every input: what it says, and the half-edges, positions, work buffer and visit list afterwards.
+use mathlib.Core.Bool.{Bool, cond, _&&_}
+use mathlib.Core.List.{List, [], _∷_}
+use Prim.Native.Nat.{ℕ, _+_, _-_}
+use lib.Dec.{leb}
+use lib.IntN.{ℤ, pos}
+use lib.ListN.{length}
+use Rattle.answers.specs.Answers.{Said, whole, done, shape, short-buffer, unsound, open-fan, no-room}
+use Rattle.laws.specs.Stretches.{filled}
+use Rattle.numbers.specs.Numbers.{Named, at, nothing}
+use Rattle.rows.specs.Triples.{zero-triples}
+use Rattle.net.specs.declared.Counts.{Counts}
+use Rattle.net.specs.Net.{Net}
+use Rattle.net.specs.Counts.{is-shaped, is-long, vertex-capacity-over}
+use Rattle.soundness.specs.Order.{least-out}
+use Rattle.splitting.specs.Steps.{Tallied, tallied, unclosed, count, State, state, split-rows}
+
+-- what is said, and what the lent arrays hold then
+pub record Outcome : Type 0 where
+  pub said : Said
+  pub halfedges : List ℤ
+  pub positions : List ℕ
+  pub work : List ℕ
+  pub visit : List ℕ
+
+abbrev pub outcome : Said → List ℤ → List ℕ → List ℕ → List ℕ → Outcome
+outcome s h p w v = record { said = s; halfedges = h; positions = p; work = w; visit = v }
+
+-- a work buffer that reads zero over n and is unchanged beyond
+abbrev pub cleared : ℕ → List ℕ → List ℕ
+cleared n work = filled 0 0 n work
+
+-- added vertices and half-edges visited
+abbrev pub done-with : ℕ → ℕ → Said
+done-with added steps = done (whole (pos added) ∷ whole (pos steps) ∷ [])
+
+module _ (H N : ℕ) (halfedges : List ℤ) (positions work visit : List ℕ) where
+  abbrev pub all-split : State
+  all-split = split-rows H N H (state halfedges positions (cleared (H + N) work) visit 0 0)
+
+  abbrev pub written : Outcome
+  written =
+      outcome (done-with (all-split .added) (all-split .steps)) (all-split .halfedges) (all-split .positions) (cleared (H + N) work) (all-split .visit)
+
+  -- the steps had filled the free vertex rows
+  abbrev pub none-free : Outcome
+  none-free = outcome no-room halfedges (zero-triples N (vertex-capacity-over positions) positions) (cleared (H + N) work) visit
+
+  abbrev pub by-count : Tallied → Outcome
+  by-count unclosed = outcome open-fan halfedges positions (cleared (H + N) work) visit
+  by-count (tallied w added) = cond (leb added (vertex-capacity-over positions - N)) written none-free
+
+  -- a net with nothing that calls for 1, 2 or 3
+  unfoldable pub split-sound : Outcome
+  split-sound = by-count (count H N halfedges H (cleared (H + N) work))
+
+  abbrev pub by-order : Named → Outcome
+  by-order nothing = split-sound
+  by-order (at h) = outcome (unsound h) halfedges positions work visit
+
+-- the work buffer has an entry for each half-edge and vertex, the visit list one for each half-edge
+abbrev pub buffers-long : ℕ → ℕ → List ℕ → List ℕ → Bool
+buffers-long H N work visit = is-long (length work) (H + N) && is-long (length visit) H
+
+unfoldable pub splitPinched : Counts → Net → List ℕ → List ℕ → Outcome
+splitPinched c n work visit =
+    cond (is-shaped c n)
+    (cond (buffers-long (c .halfedges) (c .vertices) work visit)
+    (by-order (c .halfedges) (c .vertices) (n .halfedges) (n .positions) work visit (least-out (c .halfedges) (c .vertices) (n .halfedges)))
+    (outcome short-buffer (n .halfedges) (n .positions) work visit))
+    (outcome shape (n .halfedges) (n .positions) work visit)
