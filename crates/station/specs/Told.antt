@@ -1,0 +1,63 @@
+-- What each exported function tells its caller of what was said: the number, and each value that came with it; 0 for a value
+-- that did not come.
+use mathlib.Core.List.{List, [], _∷_}
+use Prim.Native.Nat.{ℕ, zero, suc}
+use lib.IntN.{ℤ, pos, negsuc}
+use lib.Ieee.{binary64, toBits}
+use Rattle.answers.specs.Answers.{Said, Value, whole, float}
+use Rattle.net.specs.declared.Counts.{Counts}
+use Rattle.floats.specs.declared.Vec3.{Vec3}
+use Rattle.station.specs.declared.Used.{Used}
+use Rattle.station.specs.declared.Point.{Point}
+use Rattle.station.specs.declared.Answer.{Answer}
+use Rattle.station.specs.declared.NextAnswer.{NextAnswer}
+use Rattle.station.specs.declared.TriAnswer.{TriAnswer}
+use Rattle.station.specs.declared.LengthAnswer.{LengthAnswer}
+use Rattle.station.specs.declared.RowAnswer.{RowAnswer}
+
+abbrev pub counts-of : Used → Counts
+counts-of u =
+    record { halfedges = u .halfedges; vertices = u .vertices; normals = u .normals; references = u .references; properties = u .properties; «num_prop» = u .«num_prop» }
+
+abbrev pub vector-of : Point → Vec3
+vector-of p = record { x = p .x; y = p .y; z = p .z }
+
+-- the value that came at a place
+abbrev pub value : List Value → ℕ → Value
+value [] k = whole (pos 0)
+value (v ∷ vs) zero = v
+value (v ∷ vs) (suc k) = value vs k
+
+-- as a number with a sign; as a count; as the bits of a float
+abbrev pub signed : Value → ℤ
+signed (whole z) = z
+signed (float f) = pos 0
+
+abbrev pub counted : Value → ℕ
+counted (whole (pos n)) = n
+counted (whole (negsuc n)) = 0
+counted (float f) = 0
+
+abbrev pub bits : Value → ℕ
+bits (whole z) = 0
+bits (float f) = toBits binary64 f
+
+abbrev pub told : Said → Answer
+told s = record { number = s .number }
+
+abbrev pub next-told : Said → NextAnswer
+next-told s = record { number = s .number; next = signed (value (s .values) 0) }
+
+abbrev pub tri-told : Said → TriAnswer
+tri-told s =
+    record { number = s .number; first = signed (value (s .values) 0); second = signed (value (s .values) 1); third = signed (value (s .values) 2) }
+
+abbrev pub length-told : Said → LengthAnswer
+length-told s = record { number = s .number; «squared_length» = bits (value (s .values) 0); limit = bits (value (s .values) 1) }
+
+abbrev pub row-told : Said → RowAnswer
+row-told s = record { number = s .number; row = counted (value (s .values) 0) }
+
+-- what is told, beside what is left in the arrays
+abbrev pub and-left : {A B : Type 0} → (Said → B) → Said × A → B × A
+and-left tell (s, left) = (tell s, left)
