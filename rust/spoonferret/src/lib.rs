@@ -1,0 +1,74 @@
+//! Mesh surgery on half-edges, proved.
+//!
+//! Each function here calls one of the static library's, whose contract is proved for every input: what it answers, and what it
+//! leaves in everything that was lent to it. This crate owns the vectors, sizes and lends what a call needs, and turns answers into
+//! `Result`. It has no dependency and builds the static library itself.
+//!
+//! ```
+//! use spoonferret::{Halfedge, Net, Refusal, Vec3};
+//!
+//! // two triangles back to back
+//! let rows = [[0, 1, 3], [1, 2, 5], [2, 0, 4], [1, 0, 0], [0, 2, 2], [2, 1, 1]];
+//! let mut net = Net {
+//!     halfedges: rows.iter().map(|r| Halfedge::new(r[0], r[1], r[2], -1)).collect(),
+//!     positions: vec![Vec3::new(0.0, 0.0, 0.0), Vec3::new(1.0, 0.0, 0.0), Vec3::new(0.0, 1.0, 0.0)],
+//!     ..Net::default()
+//! };
+//! assert_eq!(net.check(), Ok(()));
+//!
+//! net.halfedges[4].end_vert = 7;
+//! let refusal = net.check().unwrap_err();
+//! assert_eq!(refusal, Refusal::Unsound { row: 2 });
+//! assert_eq!(refusal.to_string(), "unsound (3): row 2 is the least row that is not in order");
+//! ```
+
+mod net;
+pub mod raw;
+mod refusal;
+mod rows;
+
+pub use net::Net;
+pub use refusal::Refusal;
+pub use rows::{Halfedge, Reference, Vec3};
+
+/// The next half-edge of its triangle: `h + 1`, or `h - 2` where `h + 1` divides by 3. It is wanted on every `i32` but two.
+///
+/// ```
+/// use spoonferret::{next_halfedge, Refusal};
+/// assert_eq!(next_halfedge(2), Ok(0));
+/// assert_eq!(next_halfedge(3), Ok(4));
+/// assert_eq!(next_halfedge(-1), Ok(-3));
+/// assert_eq!(next_halfedge(i32::MAX), Err(Refusal::Number));
+/// ```
+pub fn next_halfedge(h: i32) -> Result<i32, Refusal> {
+    let told = unsafe { raw::spoonferret_next_halfedge(h) };
+    Refusal::unless_done(told.number, told.next)
+}
+
+/// The triangle of `h`, from `h` on.
+///
+/// ```
+/// use spoonferret::tri_of;
+/// assert_eq!(tri_of(4), Ok([4, 5, 3]));
+/// ```
+pub fn tri_of(h: i32) -> Result<[i32; 3], Refusal> {
+    let told = unsafe { raw::spoonferret_tri_of(h) };
+    Refusal::unless_done(told.number, [told.first, told.second, told.third])
+}
+
+/// Whether the edge between two positions is short: its squared length is strictly below `tol * tol` where
+/// `end_vert < first_new_vert`, else below `epsilon * epsilon`. A `tol` below 0 stands for `epsilon`.
+///
+/// ```
+/// use spoonferret::{short_test, Refusal, Vec3};
+/// let (from, to) = (Vec3::new(0.0, 0.0, 0.0), Vec3::new(3.0, 4.0, 0.0));
+/// assert_eq!(short_test(from, to, 1, 2, 5.0, 0.0), Err(Refusal::Long { squared_length: 25.0, limit: 25.0 }));
+/// assert_eq!(short_test(from, to, 1, 2, -1.0, 6.0), Ok(()));
+/// ```
+pub fn short_test(from: Vec3, to: Vec3, end_vert: i32, first_new_vert: i32, tol: f64, epsilon: f64) -> Result<(), Refusal> {
+    let told = unsafe { raw::spoonferret_short_test(from, to, end_vert, first_new_vert, tol, epsilon) };
+    if told.number == 8 {
+        return Err(Refusal::Long { squared_length: f64::from_bits(told.squared_length), limit: f64::from_bits(told.limit) });
+    }
+    Refusal::unless_done(told.number, ())
+}

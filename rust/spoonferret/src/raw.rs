@@ -1,0 +1,93 @@
+//! The functions of the static library, as include/spoonferret.h declares them, for a caller that keeps arrays of its own. What a caller
+//! owes stands there.
+
+use crate::Vec3;
+
+/// `spoonferret_used`
+#[repr(C)]
+#[derive(Clone, Copy, Debug)]
+pub struct Used {
+    pub halfedges: usize,
+    pub vertices: usize,
+    pub normals: usize,
+    pub references: usize,
+    pub properties: usize,
+    pub num_prop: usize,
+}
+
+#[repr(C)]
+pub struct Answer {
+    pub number: u32,
+}
+
+#[repr(C)]
+pub struct NextAnswer {
+    pub number: u32,
+    pub next: i32,
+}
+
+#[repr(C)]
+pub struct TriAnswer {
+    pub number: u32,
+    pub first: i32,
+    pub second: i32,
+    pub third: i32,
+}
+
+#[repr(C)]
+pub struct LengthAnswer {
+    pub number: u32,
+    pub squared_length: u64,
+    pub limit: u64,
+}
+
+#[repr(C)]
+pub struct RowAnswer {
+    pub number: u32,
+    pub row: usize,
+}
+
+extern "C" {
+    pub fn spoonferret_next_halfedge(h: i32) -> NextAnswer;
+
+    pub fn spoonferret_tri_of(h: i32) -> TriAnswer;
+
+    pub fn spoonferret_short_test(
+        from: Vec3,
+        to: Vec3,
+        end_vert: i32,
+        first_new_vert: i32,
+        tol: f64,
+        epsilon: f64,
+    ) -> LengthAnswer;
+
+    pub fn spoonferret_check_net(
+        used: Used,
+        halfedges: *const i32,
+        halfedges_length: usize,
+        positions: *const u64,
+        positions_length: usize,
+        normals: *const u64,
+        normals_length: usize,
+        references: *const i32,
+        references_length: usize,
+        properties: *const u64,
+        properties_length: usize,
+    ) -> RowAnswer;
+
+    pub fn spoonferret_pair_up(
+        used: Used,
+        halfedges: *mut i32,
+        halfedges_length: usize,
+        positions: *const u64,
+        positions_length: usize,
+        normals: *const u64,
+        normals_length: usize,
+        references: *const i32,
+        references_length: usize,
+        properties: *const u64,
+        properties_length: usize,
+        first: i32,
+        second: i32,
+    ) -> Answer;
+}
