@@ -1,0 +1,58 @@
+-- The cases of "Both sides of each edge" that document 01 marks with *: one table, and one statement, proved by computing.
+-- A row has what the definition that a contract cites gives, and what document 01 says.
+use mathlib.Core.Path.{_≡_, refl}
+use mathlib.Core.List.{List, [], _∷_, map}
+use Prim.Native.Nat.{ℕ}
+use lib.Ieee.{Float, binary64, add, sub, mul, lt, ofInt, ofBits}
+use lib.IntN.{ℤ, pos, negsuc}
+use Rattle.answers.specs.Answers.{Said, whole, float, done, bad-number, long}
+use Rattle.floats.specs.declared.Vec3.{Vec3}
+use Rattle.floats.specs.Short.{shortTest, limitOf, toleranceOf}
+use Rattle.numbers.specs.Next.{next, nextZ, no-next, nextAnswer}
+use Rattle.rows.specs.Halfedges.{column}
+use Rattle.net.specs.Sound.{turn}
+use Rattle.example.specs.Example.{rows}
+
+pub record Case : Type 0 where
+  pub gives : Said
+  pub is : Said
+
+abbrev _gives_ : Said → Said → Case
+_gives_ a b = record { gives = a; is = b }
+
+infix 1 _gives_
+abbrev number : ℤ → Said
+number n = done (whole n ∷ [])
+
+abbrev exact : ℤ → Float
+exact n = ofInt binary64 n
+
+abbrev point : ℤ → ℤ → ℤ → Vec3
+point x y z = record { x = exact x; y = exact y; z = exact z }
+
+-- (0,0,0) to (3,4,0), end_vert 1, first_new_vert 2
+abbrev short-3-4 : ℤ → ℤ → Said
+short-3-4 tol epsilon =
+    shortTest (point (pos 0) (pos 0) (pos 0)) (point (pos 3) (pos 4) (pos 0)) (pos 1) (pos 2) (exact tol) (exact epsilon)
+
+abbrev pub table : List Case
+table =
+    -- next
+    (nextAnswer (pos 2) gives number (pos 0))
+    ∷ (nextAnswer (pos 3) gives number (pos 4))
+    ∷ (nextAnswer (negsuc 0) gives number (negsuc 2))
+    ∷ (nextAnswer (negsuc 1) gives number (negsuc 0))
+    ∷ (nextAnswer (pos 2147483647) gives bad-number)
+    ∷ (nextAnswer (negsuc 2147483646) gives bad-number)
+    -- turn, in the example
+    ∷ (number (pos (turn rows 0)) gives number (pos 4))
+    ∷ (number (pos (turn rows 4)) gives number (pos 0))
+    -- the short test: tol 5, long, 25 against 25; tol −1 and epsilon 6, the limit is 36, short
+    ∷ (short-3-4 (pos 5) (pos 6) gives long (exact (pos 25)) (exact (pos 25)))
+    ∷ (done (float (limitOf (pos 1) (pos 2) (toleranceOf (exact (negsuc 0)) (exact (pos 6))) (exact (pos 6))) ∷ []) gives done (float (exact (pos 36)) ∷ []))
+    ∷ (short-3-4 (negsuc 0) (pos 6) gives done [])
+    ∷ []
+
+pub table-holds : map (λ (k : Case). k .gives) table ≡ map (λ (k : Case). k .is) table
+unfolding next nextZ no-next column add sub mul lt ofInt ofBits
+table-holds = refl
