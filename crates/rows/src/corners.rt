@@ -9,16 +9,12 @@ ghost use lib.Signed.{leZ};
 ghost use Rattle.laws.specs.Integers.{eqZ};
 ghost use Rattle.numbers.specs.Numbers.{names, halfedgeNumber, halfedgeNamed, is-named};
 ghost use Rattle.rows.specs.Halfedges.{startOf, endOf, pairOf, none, is-empty, is-paired, lent-halfedges};
+use crate::halfedges::END;
+use crate::halfedges::PAIR;
+use crate::halfedges::START;
+use crate::halfedges::WIDTH;
 use numbers::Halfedge;
 use numbers::NamedHalfedge;
-
-const WIDTH: usize = 4;
-
-const START: usize = 0;
-
-const END: usize = 1;
-
-const PAIR: usize = 2;
 
 // The number at i is −1.
 fn none_at(s: &[i32], i: usize) -> bool

@@ -12,15 +12,16 @@ use numbers::NamedVertex;
 use numbers::PropRow;
 use numbers::Vertex;
 
-const WIDTH: usize = 4;
+// How wide a row is, and where in it each column stands.
+pub const WIDTH: usize = 4;
 
-const START: usize = 0;
+pub const START: usize = 0;
 
-const END: usize = 1;
+pub const END: usize = 1;
 
-const PAIR: usize = 2;
+pub const PAIR: usize = 2;
 
-const PROP: usize = 3;
+pub const PROP: usize = 3;
 
 // The four numbers of a row as they stand there.
 pub struct Row {
@@ -89,6 +90,7 @@ fn put_none(rows: &mut [i32], i: usize)
     rows[i] = -1;
 }
 
+// Writes the vertex where h starts.
 pub fn set_start(rows: &mut [i32], h: Halfedge, v: Vertex)
     requires { ⌜ (halfedgeNumber h < lent-halfedges (now rows)) × (vertexNumber v < 2 ^ 31) ⌝ }
     ensures { λ _. ⌜ now (rows .exit) ≡ set-column start (halfedgeNumber h) (pos (vertexNumber v)) (now (rows .entry)) ⌝ }
@@ -96,6 +98,7 @@ pub fn set_start(rows: &mut [i32], h: Halfedge, v: Vertex)
     put(rows, WIDTH * h.number() + START, v.number());
 }
 
+// Writes the vertex where h ends.
 pub fn set_end(rows: &mut [i32], h: Halfedge, v: Vertex)
     requires { ⌜ (halfedgeNumber h < lent-halfedges (now rows)) × (vertexNumber v < 2 ^ 31) ⌝ }
     ensures { λ _. ⌜ now (rows .exit) ≡ set-column end (halfedgeNumber h) (pos (vertexNumber v)) (now (rows .entry)) ⌝ }
@@ -103,6 +106,7 @@ pub fn set_end(rows: &mut [i32], h: Halfedge, v: Vertex)
     put(rows, WIDTH * h.number() + END, v.number());
 }
 
+// Writes the partner of h.
 pub fn set_pair(rows: &mut [i32], h: Halfedge, p: Halfedge)
     requires { ⌜ (halfedgeNumber h < lent-halfedges (now rows)) × (halfedgeNumber p < 2 ^ 31) ⌝ }
     ensures { λ _. ⌜ now (rows .exit) ≡ set-column pair (halfedgeNumber h) (pos (halfedgeNumber p)) (now (rows .entry)) ⌝ }
@@ -110,6 +114,7 @@ pub fn set_pair(rows: &mut [i32], h: Halfedge, p: Halfedge)
     put(rows, WIDTH * h.number() + PAIR, p.number());
 }
 
+// Writes the property row of h.
 pub fn set_prop(rows: &mut [i32], h: Halfedge, p: PropRow)
     requires { ⌜ (halfedgeNumber h < lent-halfedges (now rows)) × (propRowNumber p < 2 ^ 31) ⌝ }
     ensures { λ _. ⌜ now (rows .exit) ≡ set-column prop (halfedgeNumber h) (pos (propRowNumber p)) (now (rows .entry)) ⌝ }
