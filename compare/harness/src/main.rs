@@ -1,0 +1,224 @@
+//! The comparison: every entry beside the original Rust and a second reading of document 01, bit for bit in everything lent.
+//!
+//! harness smoke|quick|whole [SEED]: the comparison, in three sizes
+//! harness replay DIR [SEED]: writes the calls of the gate's program `replay` and what it must print
+
+mod chance;
+mod entries;
+mod lent;
+mod nets;
+mod reading;
+mod replay;
+
+use chance::Chance;
+use entries::{Entry, ALL};
+use lent::{Asked, Lent};
+use std::io::Write;
+
+#[derive(Default)]
+struct Line {
+    calls: u64,
+    by_number: [u64; 12],
+    differences: u64,
+    smallest: Option<(usize, String)>,
+}
+
+struct Table {
+    lines: Vec<Line>,
+    shown: std::time::Instant,
+}
+
+impl Table {
+    fn run(&mut self, which: usize, net: &Lent, asked: &Asked) {
+        let entry: &Entry = &ALL[which];
+        let (mut ours, mut owed) = (net.clone(), net.clone());
+        let said = (entry.ours)(&mut ours, asked);
+        let wanted = (entry.owed)(&mut owed, asked);
+        let line = &mut self.lines[which];
+        line.calls += 1;
+        line.by_number[(wanted.number as usize).min(11)] += 1;
+        let wrong = match said {
+            Err(wrong) => Some(wrong),
+            Ok(said) if said != wanted => Some(format!("said {said:?}, owed {wanted:?}")),
+            Ok(_) => ours.differs(&owed),
+        };
+        if let Some(wrong) = wrong {
+            line.differences += 1;
+            let size = net.size();
+            if line.smallest.as_ref().is_none_or(|(least, _)| size < *least) {
+                line.smallest = Some((size, format!("{}: {wrong}\n{}", entry.name, replay::call(which, net, asked))));
+            }
+        }
+        if self.shown.elapsed().as_secs() >= 5 {
+            self.shown = std::time::Instant::now();
+            let calls: u64 = self.lines.iter().map(|l| l.calls).sum();
+            eprintln!("  {calls} calls");
+        }
+    }
+
+    /// Every entry that works on nets, on one.
+    fn on(&mut self, net: &Lent, chance: &mut Chance) {
+        self.on_with(net, usize::MAX, chance);
+    }
+
+    /// The same, asked at most so much: for large nets.
+    fn on_with(&mut self, net: &Lent, most: usize, chance: &mut Chance) {
+        for (which, entry) in ALL.iter().enumerate().filter(|(_, e)| e.on_nets) {
+            let mut asks = (entry.asks)(net, chance);
+            chance.shuffle(&mut asks);
+            for asked in asks.iter().take(most) {
+                self.run(which, net, asked);
+            }
+        }
+    }
+}
+
+fn stage(what: &str) {
+    eprintln!("{what}");
+}
+
+fn main() {
+    std::panic::set_hook(Box::new(|_| {}));
+    let words: Vec<String> = std::env::args().collect();
+    let seed = words.last().and_then(|w| w.parse().ok()).unwrap_or(1);
+    let chance = &mut Chance::new(seed);
+    match words.get(1).map(String::as_str) {
+        Some("quick") => compare(1, chance),
+        Some("whole") => compare(30, chance),
+        Some("smoke") => compare(0, chance),
+        Some("replay") if words.len() > 2 => replay::write(std::path::Path::new(&words[2]), chance),
+        _ => {
+            eprintln!("harness smoke|quick|whole|replay DIR [SEED]");
+            std::process::exit(2);
+        }
+    }
+}
+
+/// `times` is the size: 1 quick, 30 whole, 0 a few calls of each kind (for a run under memcheck).
+fn compare(times: usize, chance: &mut Chance) {
+    let mut table = Table { lines: ALL.iter().map(|_| Line::default()).collect(), shown: std::time::Instant::now() };
+    let table = &mut table;
+
+    stage("numbers alone");
+    for (which, entry) in ALL.iter().enumerate().filter(|(_, e)| !e.on_nets) {
+        for _ in 0..(times * 100).max(1) {
+            for asked in (entry.asks)(&Lent::default(), chance) {
+                table.run(which, &Lent::default(), &asked);
+            }
+        }
+    }
+    if times > 1 {
+        stage("every number of 32 bits");
+        for (which, _) in ALL.iter().enumerate().filter(|(_, e)| e.name == "next_halfedge" || e.name == "tri_of") {
+            let mut asked = Asked::numbers(&[0]);
+            for h in i32::MIN..=i32::MAX {
+                asked.numbers[0] = h;
+                table.run(which, &Lent::default(), &asked);
+            }
+        }
+    }
+
+    stage("the empty net, and no array at all");
+    table.on(&Lent::default(), chance);
+    nets::counts_beside(&Lent::default(), chance, &mut |net, chance| table.on(net, chance));
+
+    stage("all sound nets of two and of four triangles");
+    let mut small = vec![];
+    for triangles in if times == 0 { vec![2] } else { vec![2, 4] } {
+        let before = small.len();
+        nets::all_sound(triangles, &mut |net| small.push(net));
+        eprintln!("  {} of {triangles} triangles", small.len() - before);
+    }
+    for net in &small {
+        table.on(net, chance);
+    }
+
+    stage("random sound nets, with their counts moved and their room cut");
+    let mut random = vec![];
+    for i in 0..(times * 2000).max(3) {
+        let net = nets::random_sound(chance);
+        table.on(&net, chance);
+        if i % 8 == 0 {
+            nets::counts_beside(&net, chance, &mut |net, chance| table.on(net, chance));
+            nets::room_from_none(&net, chance, &mut |net, chance| table.on(net, chance));
+        }
+        if i % 16 == 0 {
+            random.push(net);
+        }
+    }
+
+    stage("damaged nets");
+    for net in small.iter().step_by(if times > 1 { 1 } else { 40 }).chain(random.iter().take(times * 20)) {
+        nets::damaged(net, chance, &mut |net, chance| table.on(net, chance));
+    }
+
+    stage("large nets");
+    let sizes: &[usize] = match times {
+        0 => &[100],
+        1 => &[1_000, 100_000],
+        _ => &[1_000, 10_000, 100_000, 999_998, 1_000_000],
+    };
+    for &triangles in sizes {
+        for in_order in [true, false] {
+            let mut net = nets::large(triangles, in_order, chance);
+            nets::dress(&mut net, chance);
+            table.on_with(&net, 3, chance);
+            for _ in 0..3 {
+                let (i, k) = (chance.below(net.used.halfedges), chance.below(3));
+                let was = net.halfedges[4 * i + k];
+                net.halfedges[4 * i + k] = *chance.pick(&[-1, was + 1, was - 1, i32::MAX]);
+                table.on_with(&net, 1, chance);
+                net.halfedges[4 * i + k] = was;
+            }
+        }
+    }
+
+    if times > 0 {
+        stage("the bounds themselves");
+        bounds(table, chance);
+    }
+    report(table);
+}
+
+/// Arrays as long as the bounds and a row longer, counts at and beside them.
+fn bounds(table: &mut Table, chance: &mut Chance) {
+    let mut net = Lent::default();
+    net.halfedges = [-1, -1, -1, 7].repeat(3_000_003);
+    net.positions = vec![0x3FF0_0000_0000_0000; 3_000_003];
+    net.properties = vec![1; 3_000_001];
+    for halfedges in [2_999_997, 3_000_000, 3_000_001, 3_000_003] {
+        for vertices in [1_000_000, 1_000_001] {
+            for (properties, num_prop) in [(0, 0), (3_000_000, 1), (3_000_001, 1), (3_000_000, 0), (3_000_001, 0), (93_750, 32), (93_751, 32), (0, 33)] {
+                net.used.halfedges = halfedges;
+                net.used.vertices = vertices;
+                net.used.properties = properties;
+                net.used.num_prop = num_prop;
+                if (halfedges, vertices) == (3_000_000, 1_000_000) || num_prop == 0 && properties == 0 {
+                    table.on_with(&net, 1, chance);
+                }
+            }
+        }
+    }
+}
+
+fn report(table: &Table) {
+    let (mut passed, mut failed) = (0, 0);
+    println!("{:<16}{:>12}{:>12}{:>12}  refused by number", "entry", "calls", "done", "differences");
+    for (entry, line) in ALL.iter().zip(&table.lines) {
+        let refused: Vec<String> =
+            (1..12).filter(|&n| line.by_number[n] > 0).map(|n| format!("{n}: {}", line.by_number[n])).collect();
+        println!("{:<16}{:>12}{:>12}{:>12}  {}", entry.name, line.calls, line.by_number[0], line.differences, refused.join(", "));
+        passed += line.calls - line.differences;
+        failed += line.differences;
+    }
+    for (_, smallest) in table.lines.iter().filter_map(|l| l.smallest.as_ref()) {
+        println!("\nthe smallest input of a difference:\n{smallest}");
+        if let Ok(mut file) = std::fs::OpenOptions::new().create(true).append(true).open("differences.txt") {
+            let _ = writeln!(file, "{smallest}");
+        }
+    }
+    println!("{passed} passed, {failed} failed");
+    if failed > 0 {
+        std::process::exit(1);
+    }
+}

@@ -1,0 +1,7 @@
+// Stand-in.
+
+#[derive(Clone, Copy, Debug, Default)]
+pub struct Box;
+
+#[derive(Clone, Copy, Debug, Default)]
+pub struct Rect;
