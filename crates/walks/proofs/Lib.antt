@@ -1,0 +1,4 @@
+pub mod Turns
+pub mod Kept
+pub mod Told
+pub mod Cases
