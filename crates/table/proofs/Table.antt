@@ -5,13 +5,18 @@ use mathlib.Core.List.{List, [], _∷_, map}
 use Prim.Native.Nat.{ℕ}
 use lib.Ieee.{Float, binary64, add, sub, mul, lt, ofInt, ofBits}
 use lib.IntN.{ℤ, pos, negsuc}
-use Rattle.answers.specs.Answers.{Said, whole, float, done, bad-number, long}
+use Rattle.answers.specs.Answers.{Said, whole, float, done, bad-number, stopped, long}
 use Rattle.floats.specs.declared.Vec3.{Vec3}
 use Rattle.floats.specs.Short.{shortTest, limitOf, toleranceOf}
 use Rattle.numbers.specs.Next.{next, nextZ, no-next, nextAnswer}
-use Rattle.rows.specs.Halfedges.{column}
+use Rattle.rows.specs.Halfedges.{column, set-column}
+use Rattle.net.specs.Counts.{is-shaped, triangle-capacity-over, vertex-capacity-over, property-capacity-over}
 use Rattle.net.specs.Sound.{turn}
-use Rattle.example.specs.Example.{rows}
+use Rattle.example.specs.Example.{rows, P-rows, P-positions, counts, bare}
+use Rattle.soundness.specs.Check.{checkNet}
+use Rattle.soundness.specs.Order.{live, in-order, first-failing}
+use Rattle.walks.specs.UpdateVert.{updateVert, updateNamed, updateAt}
+use Rattle.walks.specs.Walk.{reaches, walk, onward, moved}
 
 pub record Case : Type 0 where
   pub gives : Said
@@ -35,6 +40,9 @@ abbrev short-3-4 : ℤ → ℤ → Said
 short-3-4 tol epsilon =
     shortTest (point (pos 0) (pos 0) (pos 0)) (point (pos 3) (pos 4) (pos 0)) (pos 1) (pos 2) (exact tol) (exact epsilon)
 
+abbrev update-P : ℤ → ℤ → Said
+update-P start end = updateVert (counts 6 3) (bare P-rows P-positions) (pos 0) start end .0
+
 abbrev pub table : List Case
 table =
     -- next
@@ -51,8 +59,11 @@ table =
     ∷ (short-3-4 (pos 5) (pos 6) gives long (exact (pos 25)) (exact (pos 25)))
     ∷ (done (float (limitOf (pos 1) (pos 2) (toleranceOf (exact (negsuc 0)) (exact (pos 6))) (exact (pos 6))) ∷ []) gives done (float (exact (pos 36)) ∷ []))
     ∷ (short-3-4 (negsuc 0) (pos 6) gives done [])
+    -- P, update_vert from 0 to 1, and from 0 to 0
+    ∷ (update-P (pos 0) (pos 1) gives stopped)
+    ∷ (update-P (pos 0) (pos 0) gives done [])
     ∷ []
 
 pub table-holds : map (λ (k : Case). k .gives) table ≡ map (λ (k : Case). k .is) table
-unfolding next nextZ no-next column add sub mul lt ofInt ofBits
+unfolding next nextZ no-next column set-column add sub mul lt ofInt ofBits is-shaped triangle-capacity-over vertex-capacity-over property-capacity-over checkNet live in-order first-failing updateVert updateNamed updateAt reaches walk onward moved
 table-holds = refl
