@@ -10,24 +10,36 @@ pub struct Entry {
     pub name: &'static str,
     /// it works on a net; else on numbers alone
     pub on_nets: bool,
+    /// the values that its answer tells, by name; 0 where they do not come
+    pub fields: &'static [Field],
     pub ours: fn(&mut Lent, &Asked) -> Result<Said, String>,
     pub owed: fn(&mut Lent, &Asked) -> Said,
     pub asks: fn(&Lent, &mut Chance) -> Vec<Asked>,
 }
 
+pub enum Field {
+    Signed(&'static str),
+    Plain(&'static str),
+}
+
+use Field::{Plain, Signed};
+
 pub const ALL: &[Entry] = &[
-    Entry { name: "next_halfedge", on_nets: false, ours: next_ours, owed: next_owed, asks: edge_numbers },
-    Entry { name: "tri_of", on_nets: false, ours: tri_ours, owed: tri_owed, asks: edge_numbers },
-    Entry { name: "short_test", on_nets: false, ours: short_ours, owed: short_owed, asks: short_asks },
-    Entry { name: "check_net", on_nets: true, ours: check_ours, owed: check_owed, asks: |_, _| Asked::nothing() },
-    Entry { name: "pair_up", on_nets: true, ours: pair_ours, owed: pair_owed, asks: pair_asks },
+    Entry { name: "next_halfedge", on_nets: false, fields: &[Signed("next")], ours: next_ours, owed: next_owed, asks: edge_numbers },
+    Entry { name: "tri_of", on_nets: false, fields: &[Signed("first"), Signed("second"), Signed("third")], ours: tri_ours, owed: tri_owed, asks: edge_numbers },
+    Entry { name: "short_test", on_nets: false, fields: &[Plain("squared_length"), Plain("limit")], ours: short_ours, owed: short_owed, asks: short_asks },
+    Entry { name: "check_net", on_nets: true, fields: &[Plain("row")], ours: check_ours, owed: check_owed, asks: |_, _| Asked::nothing() },
+    Entry { name: "pair_up", on_nets: true, fields: &[], ours: pair_ours, owed: pair_owed, asks: pair_asks },
 ];
 
 // next_halfedge, tri_of: the Rust's sum that wraps is answer 4
 
 fn next_ours(_: &mut Lent, a: &Asked) -> Result<Said, String> {
     let told = unsafe { raw::spoonferret_next_halfedge(a.numbers[0]) };
-    Ok(if told.number == 0 { Said::with(0, &[signed(told.next)]) } else { Said::with(told.number, &vec![0; 0][..]) })
+    Ok(match told.number {
+        0 => Said::with(0, &[signed(told.next)]),
+        n => Said::refused(n),
+    })
 }
 
 fn next_owed(_: &mut Lent, a: &Asked) -> Said {
