@@ -1,0 +1,51 @@
+//! Time against size, both by powers of ten, as an SVG.
+
+use std::fmt::Write;
+
+const COLOURS: [&str; 6] = ["#1b6ca8", "#c0392b", "#27ae60", "#8e44ad", "#d68910", "#555555"];
+
+/// Points of named curves: size in triangles, time in nanoseconds.
+pub fn drawn(points: &[(String, f64, f64)]) -> String {
+    let (left, top, width, height) = (70.0, 20.0, 480.0, 330.0);
+    let (x0, x1) = (3.0, 6.0);
+    let low = points.iter().map(|p| p.2.log10().floor()).fold(f64::MAX, f64::min);
+    let high = points.iter().map(|p| p.2.log10().ceil()).fold(f64::MIN, f64::max);
+    let at = |size: f64, time: f64| {
+        (left + (size.log10() - x0) / (x1 - x0) * width, top + height - (time.log10() - low) / (high - low) * height)
+    };
+    let mut out = String::from("<svg xmlns=\"http://www.w3.org/2000/svg\" width=\"860\" height=\"400\" font-family=\"sans-serif\" font-size=\"12\">\n<rect width=\"860\" height=\"400\" fill=\"white\"/>\n");
+    for e in x0 as i32..=x1 as i32 {
+        let (x, _) = at(10f64.powi(e), 10f64.powf(low));
+        let _ = writeln!(out, "<line x1=\"{x:.1}\" y1=\"{top}\" x2=\"{x:.1}\" y2=\"{:.1}\" stroke=\"#ddd\"/><text x=\"{x:.1}\" y=\"{:.1}\" text-anchor=\"middle\">10^{e}</text>", top + height, top + height + 18.0);
+    }
+    for e in low as i32..=high as i32 {
+        let (_, y) = at(1000.0, 10f64.powi(e));
+        let name = match e {
+            3 => "1 µs".to_string(),
+            4 | 5 => format!("{} µs", 10i32.pow(e as u32 - 3)),
+            6..=8 => format!("{} ms", 10i32.pow(e as u32 - 6)),
+            _ => format!("10^{e} ns"),
+        };
+        let _ = writeln!(out, "<line x1=\"{left}\" y1=\"{y:.1}\" x2=\"{:.1}\" y2=\"{y:.1}\" stroke=\"#ddd\"/><text x=\"{:.1}\" y=\"{:.1}\" text-anchor=\"end\">{name}</text>", left + width, left - 8.0, y + 4.0);
+    }
+    let _ = writeln!(out, "<text x=\"{:.1}\" y=\"{:.1}\" text-anchor=\"middle\">triangles</text>", left + width / 2.0, top + height + 38.0);
+    let mut names: Vec<&String> = vec![];
+    for (name, _, _) in points {
+        if !names.contains(&name) {
+            names.push(name);
+        }
+    }
+    for (i, name) in names.iter().enumerate() {
+        let colour = COLOURS[i % COLOURS.len()];
+        let dots: Vec<(f64, f64)> = points.iter().filter(|p| &&p.0 == name).map(|p| at(p.1, p.2)).collect();
+        let line: Vec<String> = dots.iter().map(|(x, y)| format!("{x:.1},{y:.1}")).collect();
+        let _ = writeln!(out, "<polyline points=\"{}\" fill=\"none\" stroke=\"{colour}\" stroke-width=\"2\"/>", line.join(" "));
+        for (x, y) in dots {
+            let _ = writeln!(out, "<circle cx=\"{x:.1}\" cy=\"{y:.1}\" r=\"3\" fill=\"{colour}\"/>");
+        }
+        let y = top + 14.0 + 20.0 * i as f64;
+        let _ = writeln!(out, "<line x1=\"{:.1}\" y1=\"{:.1}\" x2=\"{:.1}\" y2=\"{:.1}\" stroke=\"{colour}\" stroke-width=\"2\"/><text x=\"{:.1}\" y=\"{y:.1}\">{name}</text>", left + width + 14.0, y - 4.0, left + width + 38.0, y - 4.0, left + width + 44.0);
+    }
+    out.push_str("</svg>\n");
+    out
+}
