@@ -1,0 +1,5 @@
+pub mod Gots
+pub mod Turns
+pub mod Glyphs
+pub mod Right
+pub mod Cases

@@ -1,0 +1,4 @@
+pub mod Written
+pub mod Steps
+pub mod Exact
+pub mod Told
