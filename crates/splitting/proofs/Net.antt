@@ -21,7 +21,7 @@ use Rattle.turning.proofs.Fans.{turning}
 use Rattle.splitting.specs.Needs.{SoundRows, Round}
 
 pub sound-rows : (c : Counts) (n : Net) → Sound c n → SoundRows (c .halfedges) (c .vertices) (n .halfedges)
-sound-rows c n s = let w = within c n (s .shaped) in record { thirds = w .halfedges-thirds; lent = w .halfedges-lent; few = w .halfedges-most; in-order = s .in-order }
+sound-rows c n s = let w = within c n (s .shaped) in record { thirds = w .halfedges-thirds; lent = w .halfedges-lent; few = w .halfedges-most; vertices-few = w .vertices-most; in-order = s .in-order }
 
 module _ {H N : ℕ} {rows : List ℤ} (S : SoundRows H N rows) where
   pub T : Turning H (Live H rows) (turn rows)

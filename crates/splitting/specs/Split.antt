@@ -46,9 +46,13 @@ module _ (H N : ℕ) (halfedges : List ℤ) (positions work visit : List ℕ) wh
   abbrev pub none-free : Outcome
   none-free = outcome no-room halfedges (zero-triples N (vertex-capacity-over positions) positions) (cleared (H + N) work) visit
 
+  -- the copies find room behind the vertices in use, or not
+  abbrev pub by-room : ℕ → Outcome
+  by-room copies = cond (leb copies (vertex-capacity-over positions - N)) written none-free
+
   abbrev pub by-count : Tallied → Outcome
   by-count unclosed = outcome open-fan halfedges positions (cleared (H + N) work) visit
-  by-count (tallied w added) = cond (leb added (vertex-capacity-over positions - N)) written none-free
+  by-count (tallied w copies) = by-room copies
 
   -- a net with nothing that calls for 1, 2 or 3
   unfoldable pub split-sound : Outcome

@@ -1,0 +1,6 @@
+pub mod Loops
+pub mod Steps
+pub mod Outer
+pub mod Stages
+pub mod Entry
+pub mod Agree
