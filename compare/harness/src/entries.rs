@@ -64,6 +64,29 @@ fn tri_owed(_: &mut Lent, a: &Asked) -> Said {
     }
 }
 
+/// For the entries of one number: the answer's number at h, where both sides agree.
+pub const EVERY_NUMBER: &[(&str, fn(i32) -> Option<u32>)] = &[
+    ("next_halfedge", |h| {
+        let told = unsafe { raw::spoonferret_next_halfedge(h) };
+        let owed = caught(|| original::types::next_halfedge(h));
+        let agree = match owed {
+            Some(next) => (told.number, told.next) == (0, next),
+            None => (told.number, told.next) == (4, 0),
+        };
+        agree.then_some(told.number)
+    }),
+    ("tri_of", |h| {
+        let told = unsafe { raw::spoonferret_tri_of(h) };
+        let owed = caught(|| original::edge_op::private::tri_of(h as usize));
+        let tri = [told.first, told.second, told.third];
+        let agree = match owed {
+            Some(t) => told.number == 0 && tri == t.map(|x| x as i32),
+            None => told.number == 4 && tri == [0; 3],
+        };
+        agree.then_some(told.number)
+    }),
+];
+
 /// Numbers at and beside every limit, and others.
 fn edge_numbers(_: &Lent, chance: &mut Chance) -> Vec<Asked> {
     let near = [i32::MIN, -2147483646, -1, 0, 3_000_000, i32::MAX];

@@ -23,6 +23,28 @@ struct Line {
     smallest: Option<(usize, String)>,
 }
 
+impl Line {
+    /// One call on both sides.
+    fn take(&mut self, entry: &Entry, which: usize, net: &Lent, asked: &Asked) {
+        let (mut ours, mut owed) = (net.clone(), net.clone());
+        let said = (entry.ours)(&mut ours, asked);
+        let wanted = (entry.owed)(&mut owed, asked);
+        self.calls += 1;
+        self.by_number[(wanted.number as usize).min(11)] += 1;
+        let wrong = match said {
+            Err(wrong) => Some(wrong),
+            Ok(said) if said != wanted => Some(format!("said {said:?}, owed {wanted:?}")),
+            Ok(_) => ours.differs(&owed),
+        };
+        let Some(wrong) = wrong else { return };
+        self.differences += 1;
+        let size = net.size();
+        if self.smallest.as_ref().is_none_or(|(least, _)| size < *least) {
+            self.smallest = Some((size, format!("{}: {wrong}\n{}", entry.name, replay::call(which, net, asked))));
+        }
+    }
+}
+
 struct Table {
     lines: Vec<Line>,
     shown: std::time::Instant,
@@ -30,25 +52,7 @@ struct Table {
 
 impl Table {
     fn run(&mut self, which: usize, net: &Lent, asked: &Asked) {
-        let entry: &Entry = &ALL[which];
-        let (mut ours, mut owed) = (net.clone(), net.clone());
-        let said = (entry.ours)(&mut ours, asked);
-        let wanted = (entry.owed)(&mut owed, asked);
-        let line = &mut self.lines[which];
-        line.calls += 1;
-        line.by_number[(wanted.number as usize).min(11)] += 1;
-        let wrong = match said {
-            Err(wrong) => Some(wrong),
-            Ok(said) if said != wanted => Some(format!("said {said:?}, owed {wanted:?}")),
-            Ok(_) => ours.differs(&owed),
-        };
-        if let Some(wrong) = wrong {
-            line.differences += 1;
-            let size = net.size();
-            if line.smallest.as_ref().is_none_or(|(least, _)| size < *least) {
-                line.smallest = Some((size, format!("{}: {wrong}\n{}", entry.name, replay::call(which, net, asked))));
-            }
-        }
+        self.lines[which].take(&ALL[which], which, net, asked);
         if self.shown.elapsed().as_secs() >= 5 {
             self.shown = std::time::Instant::now();
             let calls: u64 = self.lines.iter().map(|l| l.calls).sum();
@@ -109,11 +113,17 @@ fn compare(times: usize, chance: &mut Chance) {
     }
     if times > 1 {
         stage("every number of 32 bits");
-        for (which, _) in ALL.iter().enumerate().filter(|(_, e)| e.name == "next_halfedge" || e.name == "tri_of") {
-            let mut asked = Asked::numbers(&[0]);
+        for (name, every) in entries::EVERY_NUMBER {
+            let which = ALL.iter().position(|e| e.name == *name).expect("an entry's name");
             for h in i32::MIN..=i32::MAX {
-                asked.numbers[0] = h;
-                table.run(which, &Lent::default(), &asked);
+                match every(h) {
+                    Some(number) => {
+                        table.lines[which].calls += 1;
+                        table.lines[which].by_number[number as usize] += 1;
+                    }
+                    // once more, to say what differs
+                    None => table.run(which, &Lent::default(), &Asked::numbers(&[h])),
+                }
             }
         }
     }
@@ -220,5 +230,52 @@ fn report(table: &Table) {
     println!("{passed} passed, {failed} failed");
     if failed > 0 {
         std::process::exit(1);
+    }
+}
+
+/// The comparison itself: a wrong answer, a row written that should not be and a write outside what was lent are each seen.
+#[cfg(test)]
+mod tests {
+    use super::*;
+    use crate::lent::{Guarded, Said};
+
+    fn differences(ours: fn(&mut Lent, &Asked) -> Result<Said, String>) -> u64 {
+        let entry = Entry { ours, ..ALL.iter().find(|e| e.name == "check_net").map(|e| Entry { ..*e }).expect("an entry") };
+        let mut line = Line::default();
+        nets::all_sound(2, &mut |net| line.take(&entry, 3, &net, &Asked::default()));
+        assert_eq!(line.calls, 3);
+        line.differences
+    }
+
+    #[test]
+    fn right_answers_are_passed() {
+        assert_eq!(differences(|_, _| Ok(Said::done())), 0);
+    }
+
+    #[test]
+    fn a_wrong_answer_is_seen() {
+        assert_eq!(differences(|_, _| Ok(Said::refused(1))), 3);
+        assert_eq!(differences(|_, _| Ok(Said::with(0, &[1]))), 3);
+    }
+
+    #[test]
+    fn a_row_written_is_seen() {
+        assert_eq!(
+            differences(|l, _| {
+                l.positions[0] ^= 1;
+                Ok(Said::done())
+            }),
+            3
+        );
+    }
+
+    #[test]
+    fn a_write_outside_is_seen() {
+        for at in [-1, 6] {
+            let mut lent = vec![1i32; 6];
+            let mut guarded = Guarded::new(&lent);
+            unsafe { *guarded.at().offset(at) = 5 };
+            assert!(guarded.back("rows", &mut lent).is_err());
+        }
     }
 }

@@ -40,7 +40,7 @@ pub fn property_capacity(l: &Lent) -> usize {
 pub fn misshapen(l: &Lent) -> bool {
     let u = &l.used;
     let triangles = u.halfedges / 3;
-    !u.halfedges.is_multiple_of(3)
+    u.halfedges % 3 != 0
         || triangles > triangle_capacity(l)
         || u.vertices > vertex_capacity(l)
         || u.num_prop > MOST_NUM_PROP
