@@ -1,20 +1,26 @@
 -- The cases of "Both sides of each edge" that document 01 marks with *: one table, and one statement, proved by computing.
 -- A row has what the definition that a contract cites gives, and what document 01 says.
 use mathlib.Core.Path.{_≡_, refl}
-use mathlib.Core.List.{List, [], _∷_, map}
+use mathlib.Core.List.{List, [], _∷_, _++_, map}
 use Prim.Native.Nat.{ℕ}
+use native.Mathlib.Decide.{ℕ-discrete}
 use lib.Ieee.{Float, binary64, add, sub, mul, lt, ofInt, ofBits}
 use lib.IntN.{ℤ, pos, negsuc}
-use Rattle.answers.specs.Answers.{Said, whole, float, done, bad-number, stopped, long}
+use lib.ListN.{replicate}
+use Rattle.answers.specs.Answers.{Said, whole, float, done, bad-number, no-room, stopped, long}
 use Rattle.floats.specs.declared.Vec3.{Vec3}
 use Rattle.floats.specs.Short.{shortTest, limitOf, toleranceOf}
 use Rattle.numbers.specs.Next.{next, nextZ, no-next, nextAnswer}
-use Rattle.rows.specs.Halfedges.{column, set-column}
+use Rattle.rows.specs.Halfedges.{column, set-column, startOf, endOf}
+use Rattle.rows.specs.Triples.{triple, put-triple, zero-triples}
 use Rattle.net.specs.Counts.{is-shaped, triangle-capacity-over, vertex-capacity-over, property-capacity-over}
 use Rattle.net.specs.Sound.{turn}
-use Rattle.example.specs.Example.{rows, P-rows, P-positions, counts, bare}
+use Rattle.example.specs.Example.{rows, positions, P-rows, P-positions, counts, bare}
 use Rattle.soundness.specs.Check.{checkNet}
 use Rattle.soundness.specs.Order.{live, in-order, first-failing}
+use Rattle.splitting.specs.Split.{Outcome, split-sound, splitPinched}
+use Rattle.splitting.specs.Steps.{flag-walk, relabel-walk, count-step, count, split-step, split-rows}
+use Rattle.turning.specs.Walk.{walk as fan-walk, walk-end}
 use Rattle.walks.specs.UpdateVert.{updateVert, updateNamed, updateAt}
 use Rattle.walks.specs.Walk.{reaches, walk, onward, moved}
 
@@ -40,6 +46,19 @@ abbrev short-3-4 : ℤ → ℤ → Said
 short-3-4 tol epsilon =
     shortTest (point (pos 0) (pos 0) (pos 0)) (point (pos 3) (pos 4) (pos 0)) (pos 1) (pos 2) (exact tol) (exact epsilon)
 
+abbrev numbers : List ℤ → Said
+numbers l = done (map whole l)
+
+-- the example split over these positions
+abbrev split-with : List ℕ → Outcome
+split-with p = splitPinched (counts 12 5) (bare rows p) (replicate 17 0) (replicate 12 0)
+
+abbrev six : List ℕ
+six = positions ++ replicate 3 0
+
+abbrev with-six : List ℤ
+with-six = split-with six .halfedges
+
 abbrev update-P : ℤ → ℤ → Said
 update-P start end = updateVert (counts 6 3) (bare P-rows P-positions) (pos 0) start end .0
 
@@ -55,6 +74,10 @@ table =
     -- turn, in the example
     ∷ (number (pos (turn rows 0)) gives number (pos 4))
     ∷ (number (pos (turn rows 4)) gives number (pos 0))
+    -- split of the example with vertex capacity 5; with 6, where rows 6 and 10 start and rows 8 and 9 end, and the visits
+    ∷ (split-with positions .said gives no-room)
+    ∷ (numbers (startOf with-six 6 ∷ startOf with-six 10 ∷ endOf with-six 8 ∷ endOf with-six 9 ∷ []) gives numbers (replicate 4 (pos 5)))
+    ∷ (numbers (map pos (split-with six .visit)) gives numbers (map pos (4 ∷ 0 ∷ 3 ∷ 1 ∷ 5 ∷ 2 ∷ 10 ∷ 6 ∷ 9 ∷ 7 ∷ 11 ∷ 8 ∷ [])))
     -- the short test: tol 5, long, 25 against 25; tol −1 and epsilon 6, the limit is 36, short
     ∷ (short-3-4 (pos 5) (pos 6) gives long (exact (pos 25)) (exact (pos 25)))
     ∷ (done (float (limitOf (pos 1) (pos 2) (toleranceOf (exact (negsuc 0)) (exact (pos 6))) (exact (pos 6))) ∷ []) gives done (float (exact (pos 36)) ∷ []))
@@ -65,5 +88,5 @@ table =
     ∷ []
 
 pub table-holds : map (λ (k : Case). k .gives) table ≡ map (λ (k : Case). k .is) table
-unfolding next nextZ no-next column set-column add sub mul lt ofInt ofBits is-shaped triangle-capacity-over vertex-capacity-over property-capacity-over checkNet live in-order first-failing updateVert updateNamed updateAt reaches walk onward moved
+unfolding splitPinched split-sound count count-step split-rows split-step flag-walk relabel-walk fan-walk walk-end ℕ-discrete triple put-triple zero-triples next nextZ no-next column set-column add sub mul lt ofInt ofBits is-shaped triangle-capacity-over vertex-capacity-over property-capacity-over checkNet live in-order first-failing updateVert updateNamed updateAt reaches walk onward moved
 table-holds = refl
