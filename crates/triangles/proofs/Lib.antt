@@ -1,0 +1,4 @@
+pub mod Parts
+pub mod Emptied
+pub mod Told
+pub mod Cases
