@@ -1,0 +1,233 @@
+-- What orbit_owners says, in words: 10 exactly when document 01 calls for it, 1 and 2 exactly when they are called for, and where it is
+-- done the list holds the owners. And two results that its contract allows agree.
+use mathlib.Core.Path.{_≡_, refl, sym, ap, _∙_, subst}
+use mathlib.Core.Bool.{true}
+use mathlib.Core.List.{List, [], _∷_}
+use mathlib.Core.Logic.{_⊎_, inl, inr, _↔_}
+use Prim.Native.Nat.{ℕ, _≤_, _<_}
+use native.Mathlib.Omega.{arith}
+use native.Mathlib.Decide.{decLt, decLe}
+use borrow.Author.Tests.{leb-true, le-leb}
+use lib.Dec.{leb}
+use lib.IntN.{ℤ, pos}
+use lib.ListN.{length, take, drop}
+use lib.Seq.{take-at, drop-at}
+use Rattle.answers.specs.Answers.{Said, whole, done, shape, short-buffer, no-owners}
+use Rattle.answers.proofs.Laws.{values-agree, numbers-differ}
+use Rattle.laws.proofs.Tests.{by-test, and2, both2, not-both}
+use Rattle.laws.proofs.Integers.{pos-inj}
+use Rattle.net.specs.declared.Counts.{Counts}
+use Rattle.net.specs.Net.{Net}
+use Rattle.net.specs.Counts.{Shaped, is-shaped}
+use Rattle.net.specs.Sound.{turn}
+use Rattle.net.proofs.Shape.{shaped-yes, shaped-no, within}
+use Rattle.turning.specs.Fan.{Reach, Count}
+use Rattle.turning.proofs.Least.{Least, None, least}
+use Rattle.turning.proofs.Occ.{count-length}
+use Rattle.turning.proofs.Orbit.{reach-refl, reach-trans, reach-dec}
+use Rattle.owners.specs.declared.Eligible.{Eligible}
+use Rattle.owners.specs.declared.Owners.{Owners}
+use Rattle.owners.specs.declared.Owners.the-variants as O
+use Rattle.owners.specs.Words.{IsEligible, Rows32, NoOwners, Owner, IsList}
+use Rattle.owners.specs.Tests.{eligible, owns, has-owners, owners}
+use Rattle.owners.specs.Scan.{Outcome, outcome, cleared, listed, scan, buffers-long, orbitOwners, ownersSaid, InUse}
+use Rattle.owners.specs.Promise.{IsDone}
+use Rattle.owners.proofs.Below.{those-rise, those-once, those-only}
+use Rattle.owners.proofs.Fan.{Closed, fans}
+use Rattle.owners.proofs.Right.{eligible-yes, eligible-true, none-words, words-none, all-back, eligible-closed, owns-owner, owner-owns}
+
+-- the work buffer and the list have an entry for each half-edge
+abbrev pub Long : ℕ → List ℕ → List ℕ → Type 0
+Long H work list = (H ≤ length work) × (H ≤ length list)
+
+long-yes : (H : ℕ) (work list : List ℕ) → buffers-long H work list ≡ true → Long H work list
+long-yes H work list t =
+    let p = and2 (leb H (length work)) (leb H (length list)) t in
+    (leb-true H (length work) (p .0), leb-true H (length list) (p .1))
+
+long-true : (H : ℕ) (work list : List ℕ) → Long H work list → buffers-long H work list ≡ true
+long-true H work list p = both2 (le-leb H (length work) (p .0)) (le-leb H (length list) (p .1))
+
+-- g is eligible, and reached from h
+abbrev Hit : Eligible → List ℤ → ℕ → ℕ → Type 0
+Hit e rows h g = Reach (turn rows) h g × (eligible e rows g ≡ true)
+
+-- ---- the list of owners
+module _ (e : Eligible) (H : ℕ) (rows : List ℤ) (U : InUse H rows) (R : Rows32 rows) (t : has-owners e H rows ≡ true) where
+  pub is-list : IsList e H rows (owners e H rows)
+  unfolding owners
+  is-list = record {
+    rising = those-rise (owns e H rows) H;
+    once = λ h o. those-once (owns e H rows) H h (o .in-use) (owner-owns e H rows U R t h o);
+    no-other = λ h n. those-only (owns e H rows) H h (λ l q. n (owns-owner e H rows U R t h l q));
+  }
+
+  owner-dec : (h : ℕ) → Dec (Owner e H rows h)
+  owner-dec h = elim (decLt h H) [
+    | yes l ↦ by-test (owns e H rows h) (λ q. yes (owns-owner e H rows U R t h l q)) (λ q. no (λ o. not-both (owns e H rows h) (owner-owns e H rows U R t h o) q))
+    | no q ↦ no (λ o. q (o .in-use))
+  ]
+
+  pub owners-counted : Count (Owner e H rows) H (length (owners e H rows))
+  owners-counted = count-length (Owner e H rows) owner-dec (owners e H rows) (is-list .once) (is-list .no-other) H (λ h o. o .in-use)
+
+  -- a fan's least eligible half-edge
+  pub owner-there : (h : ℕ) → h < H → IsEligible e rows h → (g : ℕ) × Owner e H rows g × Reach (turn rows) h g
+  owner-there h l p = go (least (Hit e rows h) dec H)
+    where
+      c : Closed H rows h
+      c = eligible-closed e H rows U R t h l (eligible-true rows R e h p)
+
+      dec : (g : ℕ) → Dec (Hit e rows h g)
+      dec g = elim (reach-dec (fans H rows (all-back e H rows U R t)) h c g) [
+        | yes r ↦ by-test (eligible e rows g) (λ q. yes (r, q)) (λ q. no (λ z. not-both (eligible e rows g) (z .1) q))
+        | no r ↦ no (λ z. r (z .0))
+      ]
+
+      go : Least (Hit e rows h) H ⊎ None (Hit e rows h) H → (g : ℕ) × Owner e H rows g × Reach (turn rows) h g
+      go (inr n) = absurd (n h l (reach-refl (turn rows) h, eligible-true rows R e h p))
+      go (inl m) = (
+        m .0,
+        record {
+          in-use = m .1;
+          eligible = eligible-yes rows R e (m .0) (m .2 .1);
+          least = λ k r q. elim (decLe (m .0) k) [
+            | yes y ↦ y
+            | no y ↦ absurd (m .3 k (omega arith) (reach-trans (turn rows) (m .2 .0) r, eligible-true rows R e k q))
+          ];
+        },
+        m .2 .0,
+      )
+
+-- ---- the entry
+module _ (e : Eligible) (c : Counts) (n : Net) (work list : List ℕ) (R : Rows32 (n .halfedges)) where
+  abbrev H : ℕ
+  H = c .halfedges
+
+  abbrev rows : List ℤ
+  rows = n .halfedges
+
+  abbrev result : Outcome
+  result = orbitOwners e c n work list
+
+  in-use : Shaped c n → InUse H rows
+  in-use s = let w = within c n s in record { thirds = w .halfedges-thirds; lent = w .halfedges-lent; few = w .halfedges-most }
+
+  -- the four ways that it can go, with what it then comes to
+  by-answer : {P : Type 0}
+      → ((Shaped c n → ⊥) → result ≡ outcome shape work list → P)
+      → (Shaped c n → (Long H work list → ⊥) → result ≡ outcome short-buffer work list → P)
+      → (Shaped c n → Long H work list → NoOwners e H rows → result ≡ outcome no-owners (cleared H work) list → P)
+      → (Shaped c n → Long H work list → has-owners e H rows ≡ true → result ≡ outcome (done (whole (pos (length (owners e H rows))) ∷ [])) (cleared H work) (listed (owners e H rows) list) → P)
+      → P
+  unfolding orbitOwners scan
+  by-answer p q r f =
+      by-test (is-shaped c n)
+      (λ s. by-test (buffers-long H work list)
+      (λ b. by-test (has-owners e H rows)
+      (λ t. f (shaped-yes c n s) (long-yes H work list b) t (rw (s, b, t)))
+      (λ t. r (shaped-yes c n s) (long-yes H work list b) (none-words e H rows (in-use (shaped-yes c n s)) R t) (rw (s, b, t))))
+      (λ b. q (shaped-yes c n s) (λ z. not-both (buffers-long H work list) (long-true H work list z) b) (rw (s, b))))
+      (λ s. p (shaped-no c n s) (rw s))
+
+  said-of : {o : Outcome} → result ≡ o → result .said ≡ o .said
+  said-of q = ap (λ (x : Outcome). x .said) q
+
+  -- answer 10, as document 01 has it
+  pub says-none : (result .said ≡ no-owners) ↔ (Shaped c n × Long H work list × NoOwners e H rows)
+  says-none =
+      by-answer
+      (λ m q. (λ z. numbers-differ (sym (said-of q) ∙ z) (λ y. omega arith), λ w. absurd (m (w .0))))
+      (λ s m q. (λ z. numbers-differ (sym (said-of q) ∙ z) (λ y. omega arith), λ w. absurd (m (w .1))))
+      (λ s b w q. (λ z. (s, b, w), λ z. said-of q))
+      (λ s b t q. (λ z. numbers-differ (sym (said-of q) ∙ z) (λ y. omega arith), λ w. not-both (has-owners e H rows) t (words-none e H rows (in-use s) R (w .2))))
+
+  -- answers 1 and 2
+  pub says-shape : (result .said ≡ shape) ↔ (Shaped c n → ⊥)
+  says-shape =
+      by-answer
+      (λ m q. (λ z. m, λ z. said-of q))
+      (λ s m q. (λ z. numbers-differ (sym (said-of q) ∙ z) (λ y. omega arith), λ w. absurd (w s)))
+      (λ s b w q. (λ z. numbers-differ (sym (said-of q) ∙ z) (λ y. omega arith), λ w. absurd (w s)))
+      (λ s b t q. (λ z. numbers-differ (sym (said-of q) ∙ z) (λ y. omega arith), λ w. absurd (w s)))
+
+  pub says-short : (result .said ≡ short-buffer) ↔ (Shaped c n × (Long H work list → ⊥))
+  says-short =
+      by-answer
+      (λ m q. (λ z. numbers-differ (sym (said-of q) ∙ z) (λ y. omega arith), λ w. absurd (m (w .0))))
+      (λ s m q. (λ z. (s, m), λ z. said-of q))
+      (λ s b w q. (λ z. numbers-differ (sym (said-of q) ∙ z) (λ y. omega arith), λ w. absurd (w .1 b)))
+      (λ s b t q. (λ z. numbers-differ (sym (said-of q) ∙ z) (λ y. omega arith), λ w. absurd (w .1 b)))
+
+  -- on 1 and 2 all is as at entry; on 10 the list is, and the work buffer reads zero over H and is unchanged beyond
+  pub refused : (result .said ≡ shape) ⊎ (result .said ≡ short-buffer) → (result .work ≡ work) × (result .list ≡ list)
+  refused z =
+      by-answer
+      (λ m q. (ap (λ (x : Outcome). x .work) q, ap (λ (x : Outcome). x .list) q))
+      (λ s m q. (ap (λ (x : Outcome). x .work) q, ap (λ (x : Outcome). x .list) q))
+      (λ s b w q. neither (said-of q) (λ y. omega arith) (λ y. omega arith) z)
+      (λ s b t q. neither (said-of q) (λ y. omega arith) (λ y. omega arith) z)
+    where
+      neither : {P : Type 0} {a : Said} → result .said ≡ a → (a .number ≡ 1 → ⊥) → (a .number ≡ 2 → ⊥) → (result .said ≡ shape) ⊎ (result .said ≡ short-buffer) → P
+      neither q x y (inl z) = numbers-differ (sym q ∙ z) x
+      neither q x y (inr z) = numbers-differ (sym q ∙ z) y
+
+  pub none-leaves : result .said ≡ no-owners → (result .work ≡ cleared H work) × (result .list ≡ list)
+  none-leaves z =
+      by-answer
+      (λ m q. numbers-differ (sym (said-of q) ∙ z) (λ y. omega arith))
+      (λ s m q. numbers-differ (sym (said-of q) ∙ z) (λ y. omega arith))
+      (λ s b w q. (ap (λ (x : Outcome). x .work) q, ap (λ (x : Outcome). x .list) q))
+      (λ s b t q. numbers-differ (sym (said-of q) ∙ z) (λ y. omega arith))
+
+  -- else it is done
+  pub says-done : Shaped c n → Long H work list → (NoOwners e H rows → ⊥) → (count : ℕ) × IsDone e c n work list result count
+  says-done s b w =
+      by-answer
+      (λ m q. absurd (m s))
+      (λ s m q. absurd (m b))
+      (λ s b z q. absurd (w z))
+      (λ s b t q. (
+        length (owners e H rows),
+        record {
+          said = said-of q;
+          listed = subst (IsList e H rows) (sym (front q)) (is-list e H rows (in-use s) R t);
+          counted = ap length (front q);
+          rest = ap (λ (x : Outcome). drop (length (owners e H rows)) (x .list)) q ∙ drop-at (owners e H rows) (drop (length (owners e H rows)) list) (length (owners e H rows)) refl;
+          each-fan = owner-there e H rows (in-use s) R t;
+          count-is = owners-counted e H rows (in-use s) R t;
+          work-is = ap (λ (x : Outcome). x .work) q;
+        },
+      ))
+    where
+      front : {a : Said} {w : List ℕ} → result ≡ outcome a w (listed (owners e H rows) list) → take (length (owners e H rows)) (result .list) ≡ owners e H rows
+      front q = ap (λ (x : Outcome). take (length (owners e H rows)) (x .list)) q ∙ take-at (owners e H rows) (drop (length (owners e H rows)) list) (length (owners e H rows)) refl
+
+-- ---- two results agree
+same-count : (a b : ℕ) → done (whole (pos a) ∷ []) ≡ done (whole (pos b) ∷ []) → a ≡ b
+same-count a b e = let v = values-agree e in let q : pos a ≡ pos b = cc in pos-inj q
+
+same : (a b : Owners) → ownersSaid a ≡ ownersSaid b → a ≡ b
+same (O.Done a) (O.Done b) e = ap O.Done (same-count a b e)
+same (O.Done a) O.Shape e = numbers-differ e (λ z. omega arith)
+same (O.Done a) O.ShortBuffer e = numbers-differ e (λ z. omega arith)
+same (O.Done a) O.NoOwners e = numbers-differ e (λ z. omega arith)
+same O.Shape (O.Done b) e = numbers-differ e (λ z. omega arith)
+same O.Shape O.Shape e = refl
+same O.Shape O.ShortBuffer e = numbers-differ e (λ z. omega arith)
+same O.Shape O.NoOwners e = numbers-differ e (λ z. omega arith)
+same O.ShortBuffer (O.Done b) e = numbers-differ e (λ z. omega arith)
+same O.ShortBuffer O.Shape e = numbers-differ e (λ z. omega arith)
+same O.ShortBuffer O.ShortBuffer e = refl
+same O.ShortBuffer O.NoOwners e = numbers-differ e (λ z. omega arith)
+same O.NoOwners (O.Done b) e = numbers-differ e (λ z. omega arith)
+same O.NoOwners O.Shape e = numbers-differ e (λ z. omega arith)
+same O.NoOwners O.ShortBuffer e = numbers-differ e (λ z. omega arith)
+same O.NoOwners O.NoOwners e = refl
+
+pub owners-agree : (e : Eligible) (c : Counts) (n : Net) (work list : List ℕ) (a b : Owners) (w w' l l' : List ℕ)
+    → outcome (ownersSaid a) w l ≡ orbitOwners e c n work list → outcome (ownersSaid b) w' l' ≡ orbitOwners e c n work list
+    → (a ≡ b) × (w ≡ w') × (l ≡ l')
+owners-agree e c n work list a b w w' l l' p q =
+    let z = p ∙ sym q in
+    (same a b (ap (λ (x : Outcome). x .said) z), ap (λ (x : Outcome). x .work) z, ap (λ (x : Outcome). x .list) z)

@@ -1,0 +1,5 @@
+pub mod Words
+pub mod Tests
+pub mod Scan
+pub mod Marks
+pub mod Promise

@@ -1,0 +1,70 @@
+-- The entry orbit_owners for every input: what it says, and the work buffer and the list afterwards.
+use mathlib.Core.Bool.{Bool, cond, _&&_}
+use mathlib.Core.List.{List, [], _∷_, _++_}
+use mathlib.Core.Path.{_≡_}
+use Prim.Native.Nat.{ℕ, _%_, _≤_, _<_}
+use lib.IntN.{ℤ, pos}
+use lib.ListN.{length, drop}
+use Rattle.answers.specs.Answers.{Said, whole, done, shape, short-buffer, no-owners}
+use Rattle.laws.specs.Stretches.{filled}
+use Rattle.numbers.specs.Next.{most-halfedges}
+use Rattle.rows.specs.Halfedges.{lent-halfedges}
+use Rattle.net.specs.declared.Counts.{Counts}
+use Rattle.net.specs.Net.{Net}
+use Rattle.net.specs.Counts.{is-shaped, is-long}
+use Rattle.net.specs.Sound.{Paired}
+use Rattle.owners.specs.declared.Eligible.{Eligible}
+use Rattle.owners.specs.declared.Owners.{Owners}
+use Rattle.owners.specs.declared.Owners.the-variants as O
+use Rattle.owners.specs.Words.{PointsBack}
+use Rattle.owners.specs.Tests.{has-owners, owners}
+
+-- what is said, and what the two lent lists hold then
+pub record Outcome : Type 0 where
+  pub said : Said
+  pub work : List ℕ
+  pub list : List ℕ
+
+abbrev pub outcome : Said → List ℕ → List ℕ → Outcome
+outcome s w l = record { said = s; work = w; list = l }
+
+-- a work buffer that reads zero over n and is unchanged beyond
+abbrev pub cleared : ℕ → List ℕ → List ℕ
+cleared n work = filled 0 0 n work
+
+-- xs from the front of a list on, the rest kept
+abbrev pub listed : List ℕ → List ℕ → List ℕ
+listed xs list = xs ++ drop (length xs) list
+
+-- a net with nothing that calls for 1 or 2
+unfoldable pub scan : Eligible → ℕ → List ℤ → List ℕ → List ℕ → Outcome
+scan e H rows work list =
+    cond (has-owners e H rows)
+    (outcome (done (whole (pos (length (owners e H rows))) ∷ [])) (cleared H work) (listed (owners e H rows) list))
+    (outcome no-owners (cleared H work) list)
+
+-- the work buffer and the list have an entry for each half-edge
+abbrev pub buffers-long : ℕ → List ℕ → List ℕ → Bool
+buffers-long H work list = is-long (length work) H && is-long (length list) H
+
+unfoldable pub orbitOwners : Eligible → Counts → Net → List ℕ → List ℕ → Outcome
+orbitOwners e c n work list =
+    cond (is-shaped c n)
+    (cond (buffers-long (c .halfedges) work list) (scan e (c .halfedges) (n .halfedges) work list) (outcome short-buffer work list))
+    (outcome shape work list)
+
+abbrev pub ownersSaid : Owners → Said
+ownersSaid (O.Done count) = done (whole (pos count) ∷ [])
+ownersSaid O.Shape = shape
+ownersSaid O.ShortBuffer = short-buffer
+ownersSaid O.NoOwners = no-owners
+
+-- what the scan needs of the rows in use: they are there, in thirds; and for its walks, every pair ≥ 0 is in 0..H and points back
+pub record InUse (H : ℕ) (rows : List ℤ) : Type 0 where
+  pub thirds : H % 3 ≡ 0
+  pub lent : H ≤ lent-halfedges rows
+  pub few : H ≤ most-halfedges
+
+pub record Back (H : ℕ) (rows : List ℤ) : Type 0 where
+  pub in-use : InUse H rows
+  pub back : (h : ℕ) → h < H → Paired rows h → PointsBack H rows h

@@ -1,0 +1,244 @@
+// The owner scan: the entry orbit_owners, for nets that need not be sound. It tests that every pair points back, walks each fan that has
+// an eligible half-edge once, from its least one, and lists those.
+ghost use mathlib.Core.Path.{_≡_};
+ghost use mathlib.Core.Bool.{true};
+ghost use Prim.Native.Nat.{ℕ, _<_, _≤_};
+ghost use lib.Dec.{eqb};
+ghost use lib.ListN.{length, getD, drop};
+ghost use Rattle.numbers.specs.Next.{most-halfedges};
+ghost use Rattle.numbers.specs.Numbers.{halfedgeNumber, names, is-named};
+ghost use Rattle.rows.specs.Halfedges.{startOf, endOf, pairOf, lent-halfedges};
+ghost use Rattle.net.specs.Net.{net};
+ghost use Rattle.owners.specs.Tests.{numbers, all-below, those-below, is-back, points-back, closes, closes-if, owns};
+ghost use Rattle.owners.specs.Tests.{eligible as is-eligible};
+ghost use Rattle.owners.specs.Scan.{outcome, listed, scan, orbitOwners, ownersSaid, InUse, Back};
+ghost use Rattle.owners.specs.Marks.{Marked, Stepped, Scanned};
+use net::Counts;
+use numbers::Halfedge;
+use numbers::NamedHalfedge;
+use numbers::NamedVertex;
+
+// Which half-edges count: those with start ≥ 0, or with start and end ≥ 0.
+pub enum Eligible {
+    Start,
+    StartAndEnd,
+}
+
+// What orbit_owners answers: how many are listed; or a shape that does not fit, a buffer too short, no owners.
+pub enum Owners {
+    Done(usize),
+    Shape,
+    ShortBuffer,
+    NoOwners,
+}
+
+// One more than the greatest number that a row can hold.
+const NUMBERS: usize = 2_147_483_648;
+
+const MET: u8 = 1;
+
+const OWNER: u8 = 2;
+
+// The start of h is 0 or more.
+fn has_start(rows: &[i32], h: Halfedge) -> bool
+    requires { ⌜ halfedgeNumber h < lent-halfedges (now rows) ⌝ }
+    ensures { λ r. ⌜ r ≡ is-named (names (startOf (now (rows .entry)) (halfedgeNumber h)) numbers) ⌝ }
+{
+    match rows::halfedges::start_of(rows, h, NUMBERS) {
+        NamedVertex::At(_) => true,
+        NamedVertex::Nothing => false,
+    }
+}
+
+// The end of h is 0 or more.
+fn has_end(rows: &[i32], h: Halfedge) -> bool
+    requires { ⌜ halfedgeNumber h < lent-halfedges (now rows) ⌝ }
+    ensures { λ r. ⌜ r ≡ is-named (names (endOf (now (rows .entry)) (halfedgeNumber h)) numbers) ⌝ }
+{
+    match rows::halfedges::end_of(rows, h, NUMBERS) {
+        NamedVertex::At(_) => true,
+        NamedVertex::Nothing => false,
+    }
+}
+
+// h counts, by the caller's choice.
+fn is_eligible(rows: &[i32], h: Halfedge, eligible: Eligible) -> bool
+    requires { ⌜ halfedgeNumber h < lent-halfedges (now rows) ⌝ }
+    ensures { λ r. ⌜ r ≡ is-eligible eligible (now (rows .entry)) (halfedgeNumber h) ⌝ }
+{
+    match eligible {
+        Eligible::Start => has_start(rows, h),
+        Eligible::StartAndEnd => has_start(rows, h) & has_end(rows, h),
+    }
+}
+
+// The pair of p is h.
+fn is_pair(rows: &[i32], p: Halfedge, h: Halfedge, halfedges: usize) -> bool
+    requires { ⌜ halfedgeNumber p < lent-halfedges (now rows) ⌝ }
+    ensures { λ r. ⌜ r ≡ is-back (halfedgeNumber h) (names (pairOf (now (rows .entry)) (halfedgeNumber p)) halfedges) ⌝ }
+{
+    match rows::halfedges::pair_of(rows, p, halfedges) {
+        NamedHalfedge::At(q) => q.number() == h.number(),
+        NamedHalfedge::Nothing => false,
+    }
+}
+
+// The pair of h is below 0, or is there and points back.
+fn is_paired_back(rows: &[i32], h: Halfedge, halfedges: usize) -> bool
+    requires { ⌜ (halfedgeNumber h < lent-halfedges (now rows)) × (halfedges ≤ lent-halfedges (now rows)) ⌝ }
+    ensures { λ r. ⌜ r ≡ points-back halfedges (now (rows .entry)) (halfedgeNumber h) ⌝ }
+{
+    match rows::halfedges::pair_of(rows, h, halfedges) {
+        NamedHalfedge::At(p) => is_pair(rows, p, h, halfedges),
+        NamedHalfedge::Nothing => !rows::corners::paired(rows, h.number()),
+    }
+}
+
+// Every pair of 0 or more is there and points back.
+fn paired_back(rows: &[i32], halfedges: usize) -> bool
+    requires { ⌜ halfedges ≤ lent-halfedges (now rows) ⌝ }
+    ensures { λ r. ⌜ r ≡ all-below (points-back halfedges (now (rows .entry))) halfedges ⌝ }
+{
+    let mut i = 0;
+    while i < halfedges {
+        if !is_paired_back(rows, numbers::halfedge_counted(i), halfedges) {
+            return false;
+        }
+        i += 1;
+    }
+    true
+}
+
+// Walks the fan of i: marks i as its owner and the others as met. Whether it closes.
+fn mark_fan(rows: &[i32], work: &mut [u8], halfedges: usize, i: Halfedge) -> bool
+    requires { ⌜ Back halfedges (now rows) × ((halfedgeNumber i < halfedges) × (halfedges ≤ length (now work))) ⌝ }
+    ensures { λ r. ⌜ Marked halfedges (now (rows .entry)) (halfedgeNumber i) (now (work .entry)) (now (work .exit)) r ⌝ }
+{
+    let home = i.number();
+    let mut c = i;
+    let mut left = halfedges;
+    while left > 0 {
+        let NamedHalfedge::At(p) = rows::halfedges::pair_of(rows, c, halfedges) else {
+            return false;
+        };
+        c = p.next();
+        let here = c.number();
+        if here == home {
+            work[here] = OWNER;
+            return true;
+        }
+        work[here] = MET;
+        left -= 1;
+    }
+    false
+}
+
+// Walks the fan of h if h is eligible and no walk has met it. Whether it closes.
+fn mark_from(
+    rows: &[i32],
+    work: &mut [u8],
+    halfedges: usize,
+    h: Halfedge,
+    eligible: Eligible,
+) -> bool
+    requires { ⌜ Back halfedges (now rows) × ((halfedgeNumber h < halfedges) × (halfedges ≤ length (now work))) ⌝ }
+    ensures { λ r. ⌜ Stepped eligible halfedges (now (rows .entry)) (halfedgeNumber h) (now (work .entry)) (now (work .exit)) r ⌝ }
+{
+    let i = h.number();
+    if work[i] != 0 {
+        return true;
+    }
+    if !is_eligible(rows, h, eligible) {
+        return true;
+    }
+    mark_fan(rows, work, halfedges, h)
+}
+
+// Walks the fan of each eligible half-edge that no walk has met, rising. Whether all of them close.
+fn mark_fans(rows: &[i32], work: &mut [u8], halfedges: usize, eligible: Eligible) -> bool
+    requires { ⌜ Back halfedges (now rows) × ((halfedges ≤ length (now work)) × ((g : ℕ) → g < halfedges → getD (now work) g 0 ≡ 0)) ⌝ }
+    ensures { λ r. ⌜ Scanned eligible halfedges (now (rows .entry)) (now (work .entry)) (now (work .exit)) r ⌝ }
+{
+    let mut i = 0;
+    while i < halfedges {
+        let h = numbers::halfedge_counted(i);
+        if !mark_from(rows, work, halfedges, h, eligible) {
+            return false;
+        }
+        i += 1;
+    }
+    true
+}
+
+// Lists the half-edges that are marked as owners, rising. How many they are.
+fn list_owners(work: &[u8], list: &mut [u32], halfedges: usize) -> usize
+    requires { ⌜ (halfedges ≤ length (now work)) × ((halfedges ≤ length (now list)) × (halfedges ≤ most-halfedges)) ⌝ }
+    ensures { λ r. ⌜ (now (list .exit) ≡ listed (those-below (λ (g : ℕ). eqb (getD (now (work .entry)) g 0) 2) halfedges) (now (list .entry)))
+        × (r ≡ length (those-below (λ (g : ℕ). eqb (getD (now (work .entry)) g 0) 2) halfedges)) ⌝ }
+{
+    let mut count = 0;
+    let mut i = 0;
+    while i < halfedges {
+        if work[i] == OWNER {
+            list[count] = i as u32;
+            count += 1;
+        }
+        i += 1;
+    }
+    count
+}
+
+// The scan past the checks.
+fn find_owners(
+    rows: &[i32],
+    work: &mut [u8],
+    list: &mut [u32],
+    halfedges: usize,
+    eligible: Eligible,
+) -> Owners
+    requires { ⌜ InUse halfedges (now rows) × ((halfedges ≤ length (now work)) × (halfedges ≤ length (now list))) ⌝ }
+    ensures { λ r. ⌜ outcome (ownersSaid r) (now (work .exit)) (now (list .exit)) ≡ scan eligible halfedges (now (rows .entry)) (now (work .entry)) (now (list .entry)) ⌝ }
+{
+    stretches::zero_u8(work, 0, halfedges);
+    if !paired_back(rows, halfedges) {
+        return Owners::NoOwners;
+    }
+    if !mark_fans(rows, work, halfedges, eligible) {
+        stretches::zero_u8(work, 0, halfedges);
+        return Owners::NoOwners;
+    }
+    let count = list_owners(work, list, halfedges);
+    stretches::zero_u8(work, 0, halfedges);
+    Owners::Done(count)
+}
+
+// The entry orbit_owners.
+pub fn orbit_owners(
+    counts: Counts,
+    halfedges: &[i32],
+    positions: &[u64],
+    normals: &[u64],
+    references: &[i32],
+    properties: &[u64],
+    work: &mut [u8],
+    list: &mut [u32],
+    eligible: Eligible,
+) -> Owners
+    ensures { λ r. ⌜ outcome (ownersSaid r) (now (work .exit)) (now (list .exit)) ≡ orbitOwners eligible counts (net (now (halfedges .entry)) (now (positions .entry)) (now (normals .entry)) (now (references .entry)) (now (properties .entry))) (now (work .entry)) (now (list .entry)) ⌝ }
+{
+    if !net::shaped(
+        counts,
+        halfedges,
+        positions,
+        normals,
+        references,
+        properties,
+    ) {
+        return Owners::Shape;
+    }
+    if !(net::long_enough(work.len(), counts.halfedges)
+        & net::long_enough(list.len(), counts.halfedges)) {
+        return Owners::ShortBuffer;
+    }
+    find_owners(halfedges, work, list, counts.halfedges, eligible)
+}
