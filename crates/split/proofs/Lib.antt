@@ -1,4 +1,3 @@
-pub mod Loops
 pub mod Steps
 pub mod Outer
 pub mod Stages

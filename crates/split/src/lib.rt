@@ -3,18 +3,14 @@
 ghost use mathlib.Core.Path.{_≡_};
 ghost use Prim.Native.Nat.{ℕ, _+_, _<_, _≤_, _^_};
 ghost use native.Mathlib.Decide.{ℕ-discrete};
-ghost use lib.Dec.{eqb};
-ghost use lib.ListN.{length, getD, set, drop};
-ghost use lib.Seq.{sets};
-ghost use Rattle.numbers.specs.Numbers.{halfedgeNumber, vertexNumber, names};
-ghost use Rattle.rows.specs.Halfedges.{startOf};
-ghost use Rattle.rows.specs.Triples.{lent-triples, triple, put-triple};
+ghost use lib.ListN.{length, getD, drop};
+ghost use Rattle.numbers.specs.Numbers.{halfedgeNumber, vertexNumber};
 ghost use Rattle.net.specs.Net.{net};
 ghost use Rattle.net.specs.Counts.{vertex-capacity-over};
-ghost use Rattle.net.specs.Sound.{partner, turn, Live};
-ghost use Rattle.turning.specs.Walk.{walk, walk-end};
+ghost use Rattle.net.specs.Sound.{turn, Live};
+ghost use Rattle.turning.specs.Walk.{walk};
 ghost use Rattle.splitting.specs.Needs.{SoundRows, Round};
-ghost use Rattle.splitting.specs.Steps.{flag-walk, relabel, relabel-walk, count-fan, count-step, count, state, split-fan, split-step, split-rows};
+ghost use Rattle.splitting.specs.Steps.{count-fan, count-step, count, state, split-fan, split-step, split-rows};
 ghost use Rattle.splitting.specs.Split.{outcome, cleared, all-split, by-room, split-sound, splitPinched};
 ghost use Rattle.split.specs.Answer.{tally, reached, splitSaid};
 ghost use Rattle.split.specs.Needs.{FanNeeds, RowNeeds};
@@ -23,121 +19,6 @@ use numbers::Halfedge;
 use numbers::NamedHalfedge;
 use numbers::NamedVertex;
 use numbers::Vertex;
-
-// The partner of a live half-edge, which is there.
-fn partner_of(rows: &[i32], h: Halfedge, halfedges: usize) -> Halfedge
-    requires { ⌜ Round halfedges (now rows) × Live halfedges (now rows) (halfedgeNumber h) ⌝ }
-    ensures { λ r. ⌜ (halfedgeNumber r ≡ partner (now (rows .entry)) (halfedgeNumber h)) × (halfedgeNumber r < halfedges) ⌝ }
-{
-    match rows::halfedges::pair_of(rows, h, halfedges) {
-        NamedHalfedge::At(p) => p,
-        NamedHalfedge::Nothing => h,
-    }
-}
-
-// One turn about the start of a live half-edge.
-fn turn_of(rows: &[i32], h: Halfedge, halfedges: usize) -> Halfedge
-    requires { ⌜ Round halfedges (now rows) × Live halfedges (now rows) (halfedgeNumber h) ⌝ }
-    ensures { λ r. ⌜ (halfedgeNumber r ≡ turn (now (rows .entry)) (halfedgeNumber h)) × (halfedgeNumber r < halfedges) ⌝ }
-{
-    partner_of(rows, h, halfedges).next()
-}
-
-// Flags each half-edge of the fan of i. Whether the fan closed.
-fn flag_fan(rows: &[i32], work: &mut [u32], halfedges: usize, i: Halfedge) -> bool
-    requires { ⌜ Round halfedges (now rows) × (Live halfedges (now rows) (halfedgeNumber i) × (halfedges ≤ length (now work))) ⌝ }
-    ensures { λ r. ⌜ (now (work .exit) ≡ flag-walk (walk (turn (now (rows .entry))) halfedges (halfedgeNumber i) (halfedgeNumber i)) (now (work .entry)))
-        × (r ≡ eqb (walk-end (turn (now (rows .entry))) halfedges (halfedgeNumber i) (halfedgeNumber i)) (halfedgeNumber i)) ⌝ }
-{
-    let home = i.number();
-    let mut c = i;
-    let mut left = halfedges;
-    while left > 0 {
-        c = turn_of(rows, c, halfedges);
-        let here = c.number();
-        work[here] = 1;
-        if here == home {
-            left = 0;
-        } else {
-            left -= 1;
-        }
-    }
-    c.number() == home
-}
-
-// Flags each half-edge of the fan of i and lists it, behind `steps` others. How many are listed then.
-fn visit_fan(
-    rows: &[i32],
-    work: &mut [u32],
-    visit: &mut [u32],
-    halfedges: usize,
-    i: Halfedge,
-    steps: usize,
-) -> usize
-    requires { ⌜ Round halfedges (now rows) × (Live halfedges (now rows) (halfedgeNumber i) × ((halfedges ≤ length (now work))
-        × (steps + length (walk (turn (now rows)) halfedges (halfedgeNumber i) (halfedgeNumber i)) ≤ length (now visit)))) ⌝ }
-    ensures { λ r. ⌜ (now (work .exit) ≡ flag-walk (walk (turn (now (rows .entry))) halfedges (halfedgeNumber i) (halfedgeNumber i)) (now (work .entry)))
-        × ((now (visit .exit) ≡ sets (now (visit .entry)) steps (walk (turn (now (rows .entry))) halfedges (halfedgeNumber i) (halfedgeNumber i)))
-        × (r ≡ steps + length (walk (turn (now (rows .entry))) halfedges (halfedgeNumber i) (halfedgeNumber i)))) ⌝ }
-{
-    let home = i.number();
-    let mut c = i;
-    let mut k = steps;
-    let mut left = halfedges;
-    while left > 0 {
-        c = turn_of(rows, c, halfedges);
-        let here = c.number();
-        work[here] = 1;
-        visit[k] = here as u32;
-        k += 1;
-        if here == home {
-            left = 0;
-        } else {
-            left -= 1;
-        }
-    }
-    k
-}
-
-// Sets x on the start of c and the end of its partner.
-fn relabel_at(rows: &mut [i32], halfedges: usize, c: Halfedge, x: Vertex)
-    requires { ⌜ Round halfedges (now rows) × (Live halfedges (now rows) (halfedgeNumber c) × (vertexNumber x < 2 ^ 31)) ⌝ }
-    ensures { λ _. ⌜ now (rows .exit) ≡ relabel (vertexNumber x) (halfedgeNumber c) (now (rows .entry)) ⌝ }
-{
-    let p = partner_of(rows, c, halfedges);
-    rows::halfedges::set_start(rows, c, x);
-    rows::halfedges::set_end(rows, p, x);
-}
-
-// Sets x on every start in the fan of i and on the end of every partner.
-fn relabel_fan(rows: &mut [i32], halfedges: usize, i: Halfedge, x: Vertex)
-    requires { ⌜ Round halfedges (now rows) × (Live halfedges (now rows) (halfedgeNumber i) × (vertexNumber x < 2 ^ 31)) ⌝ }
-    ensures { λ _. ⌜ now (rows .exit) ≡ relabel-walk (vertexNumber x) (walk (turn (now (rows .entry))) halfedges (halfedgeNumber i) (halfedgeNumber i)) (now (rows .entry)) ⌝ }
-{
-    let home = i.number();
-    let mut c = i;
-    let mut left = halfedges;
-    while left > 0 {
-        c = turn_of(rows, c, halfedges);
-        relabel_at(rows, halfedges, c, x);
-        if c.number() == home {
-            left = 0;
-        } else {
-            left -= 1;
-        }
-    }
-}
-
-// Marks v. Whether this is the first fan there.
-fn mark_vertex(work: &mut [u32], halfedges: usize, v: Vertex) -> bool
-    requires { ⌜ (halfedges + vertexNumber v < length (now work)) × (halfedges + vertexNumber v < 2 ^ 31) ⌝ }
-    ensures { λ r. ⌜ (now (work .exit) ≡ set (now (work .entry)) (halfedges + vertexNumber v) 1) × (r ≡ eqb (getD (now (work .entry)) (halfedges + vertexNumber v) 0) 0) ⌝ }
-{
-    let m = halfedges + v.number();
-    let first = work[m] == 0;
-    work[m] = 1;
-    first
-}
 
 // How many copies are counted, or that a fan does not close.
 enum Copies {
@@ -157,8 +38,8 @@ fn count_fan(
     requires { ⌜ Round halfedges (now rows) × (Live halfedges (now rows) (halfedgeNumber i) × ((halfedges + vertexNumber v < length (now work)) × ((halfedges + vertexNumber v < 2 ^ 31) × (added < 2 ^ 31)))) ⌝ }
     ensures { λ r. ⌜ tally r (now (work .exit)) ≡ count-fan halfedges (now (rows .entry)) (halfedgeNumber i) (vertexNumber v) (now (work .entry)) added ⌝ }
 {
-    let first = mark_vertex(work, halfedges, v);
-    if !flag_fan(rows, work, halfedges, i) {
+    let first = fanwalks::mark_vertex(work, halfedges, v);
+    if !fanwalks::flag_fan(rows, work, halfedges, i) {
         return Copies::Unclosed;
     }
     if first {
@@ -217,24 +98,6 @@ fn count_rows(rows: &[i32], work: &mut [u32], halfedges: usize, vertices: usize)
     Copies::Counted(added)
 }
 
-// The fan of i gets a copy of v, appended behind `used` vertices.
-fn copy_fan(
-    rows: &mut [i32],
-    positions: &mut [u64],
-    halfedges: usize,
-    used: usize,
-    i: Halfedge,
-    v: Vertex,
-)
-    requires { ⌜ Round halfedges (now rows) × (Live halfedges (now rows) (halfedgeNumber i) × ((vertexNumber v < lent-triples (now positions)) × ((used < lent-triples (now positions)) × (used < 2 ^ 31)))) ⌝ }
-    ensures { λ _. ⌜ (now (rows .exit) ≡ relabel-walk used (walk (turn (now (rows .entry))) halfedges (halfedgeNumber i) (halfedgeNumber i)) (now (rows .entry)))
-        × (now (positions .exit) ≡ put-triple used (triple (now (positions .entry)) (vertexNumber v)) (now (positions .entry))) ⌝ }
-{
-    let p = rows::triples::position_of(positions, v);
-    let x = rows::triples::append_position(positions, used, p);
-    relabel_fan(rows, halfedges, i, x);
-}
-
 // Vertices added and half-edges visited so far.
 struct SoFar {
     added: usize,
@@ -258,13 +121,13 @@ fn split_fan(
         ≡ split-fan halfedges vertices (vertexNumber v) (walk (turn (now (rows .entry))) halfedges (halfedgeNumber i) (halfedgeNumber i))
         (reached (now (rows .entry)) (now (positions .entry)) (now (work .entry)) (now (visit .entry)) sofar) (ℕ-discrete (getD (now (work .entry)) (halfedges + vertexNumber v) 0) 0) ⌝ }
 {
-    let first = mark_vertex(work, halfedges, v);
-    let steps = visit_fan(rows, work, visit, halfedges, i, sofar.steps);
+    let first = fanwalks::mark_vertex(work, halfedges, v);
+    let steps = fanwalks::visit_fan(rows, work, visit, halfedges, i, sofar.steps);
     let added = sofar.added;
     if first {
         return SoFar { added, steps };
     }
-    copy_fan(rows, positions, halfedges, vertices + added, i, v);
+    fanwalks::copy_fan(rows, positions, halfedges, vertices + added, i, v);
     SoFar {
         added: added + 1,
         steps,
@@ -340,6 +203,7 @@ fn split_rows(
 }
 
 // What split_pinched_verts answers: vertices added and half-edges visited; or a shape that does not fit, a buffer too short, the
+
 // least row that is not in order, a fan that does not close, no room for a copy.
 pub enum Split {
     Done(usize, usize),

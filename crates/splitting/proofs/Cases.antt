@@ -31,7 +31,7 @@ pub record Case : Type 0 where
 abbrev case : ℕ → ℕ → List ℤ → List ℕ → List ℕ → List ℕ → Outcome → Case
 case h n r p w v o = record { halfedges = h; vertices = n; rows = r; positions = p; work = w; visit = v; comes = o }
 
-abbrev split : Case → Outcome
+abbrev pub split : Case → Outcome
 split k = splitPinched (counts (k .halfedges) (k .vertices)) (bare (k .rows) (k .positions)) (k .work) (k .visit)
 
 -- a case in which all is as at entry

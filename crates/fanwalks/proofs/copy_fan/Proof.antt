@@ -1,8 +1,8 @@
--- `split::copy_fan` meets its contract: what is appended is the position that was read.
+-- `fanwalks::copy_fan` meets its contract: what is appended is the position that was read.
 use mathlib.Core.Path.{_≡_}
 use borrow.Author.Needs.{needs}
-use Rattle.split.proofs.copy_fan.Statement.{statement}
-use Rattle.split.proofs.copy_fan.Tie as tie
+use Rattle.fanwalks.proofs.copy_fan.Statement.{statement}
+use Rattle.fanwalks.proofs.copy_fan.Tie as tie
 
 position-of-requires : tie.Need-position-of-requires
 position-of-requires c κs = search needs

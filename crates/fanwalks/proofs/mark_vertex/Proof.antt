@@ -1,11 +1,11 @@
--- `split::mark_vertex` meets its contract: the mark of v is the entry behind the flags.
+-- `fanwalks::mark_vertex` meets its contract: the mark of v is the entry behind the flags.
 use mathlib.Core.Path.{ap}
 use Prim.Native.Nat.{_+_}
 use lib.Dec.{eqb}
 use lib.ListN.{getD, set}
 use borrow.Author.Needs.{needs}
-use Rattle.split.proofs.mark_vertex.Statement.{statement}
-use Rattle.split.proofs.mark_vertex.Tie as tie
+use Rattle.fanwalks.proofs.mark_vertex.Statement.{statement}
+use Rattle.fanwalks.proofs.mark_vertex.Tie as tie
 
 number-requires : tie.Need-number-requires
 number-requires c κs = search needs

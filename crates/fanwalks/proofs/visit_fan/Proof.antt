@@ -1,13 +1,13 @@
--- `split::visit_fan` meets its contract: what is still to be walked, put to what is done, is the whole walk.
+-- `fanwalks::visit_fan` meets its contract: what is still to be walked, put to what is done, is the whole walk.
 use mathlib.Core.Path.{refl, sym, _∙_}
 use mathlib.Core.Logic.{inl, inr}
 use Prim.Native.Nat.{_-_}
 use native.Mathlib.Omega.{arith}
 use Rattle.numbers.specs.Numbers.{halfedgeNumber}
-use Rattle.split.proofs.Loops.{Flagging, flagging-begins, flagging-on, flagging-done, Listing, listing-begins, listing-room, listing-on, listing-done}
+use Rattle.fanwalks.proofs.Loops.{Flagging, flagging-begins, flagging-on, flagging-done, Listing, listing-begins, listing-room, listing-on, listing-done}
 use borrow.Author.Needs.{needs}
-use Rattle.split.proofs.visit_fan.Statement.{statement}
-use Rattle.split.proofs.visit_fan.Tie as tie
+use Rattle.fanwalks.proofs.visit_fan.Statement.{statement}
+use Rattle.fanwalks.proofs.visit_fan.Tie as tie
 
 abbrev Inv-loop : tie.InvT-loop
 Inv-loop rows work₀ visit₀ halfedges steps home c₀ k₀ left₀ work visit c k left = Flagging rows halfedges (halfedgeNumber c₀) work₀ work (halfedgeNumber c) left × Listing rows halfedges (halfedgeNumber c₀) steps visit₀ visit (halfedgeNumber c) k left

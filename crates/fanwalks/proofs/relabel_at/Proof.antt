@@ -1,11 +1,11 @@
--- `split::relabel_at` meets its contract: two writes make one move.
+-- `fanwalks::relabel_at` meets its contract: two writes make one move.
 use mathlib.Core.Path.{ap, _∙_}
 use lib.IntN.{pos}
 use Rattle.numbers.specs.Numbers.{halfedgeNumber, vertexNumber}
 use Rattle.rows.specs.Halfedges.{start, end, set-column}
 use borrow.Author.Needs.{needs}
-use Rattle.split.proofs.relabel_at.Statement.{statement}
-use Rattle.split.proofs.relabel_at.Tie as tie
+use Rattle.fanwalks.proofs.relabel_at.Statement.{statement}
+use Rattle.fanwalks.proofs.relabel_at.Tie as tie
 
 partner-of-requires : tie.Need-partner-of-requires
 partner-of-requires c κs = search needs

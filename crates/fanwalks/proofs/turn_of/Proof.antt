@@ -1,10 +1,10 @@
--- `split::turn_of` meets its contract: the next of the partner.
+-- `fanwalks::turn_of` meets its contract: the next of the partner.
 use mathlib.Core.Path.{sym, ap, _∙_, subst}
 use Prim.Native.Nat.{_<_}
 use Rattle.numbers.specs.Next.{next}
 use borrow.Author.Needs.{needs}
-use Rattle.split.proofs.turn_of.Statement.{statement}
-use Rattle.split.proofs.turn_of.Tie as tie
+use Rattle.fanwalks.proofs.turn_of.Statement.{statement}
+use Rattle.fanwalks.proofs.turn_of.Tie as tie
 
 partner-of-requires : tie.Need-partner-of-requires
 partner-of-requires c κs = search needs

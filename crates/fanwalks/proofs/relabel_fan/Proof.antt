@@ -1,14 +1,14 @@
--- `split::relabel_fan` meets its contract: what is still to be walked, put to what is done, is the whole walk. Pairs stay, so the walk goes the same way.
+-- `fanwalks::relabel_fan` meets its contract: what is still to be walked, put to what is done, is the whole walk. Pairs stay, so the walk goes the same way.
 use mathlib.Core.Path.{refl, sym, _∙_}
 use mathlib.Core.Logic.{inl, inr}
 use Prim.Native.Nat.{_-_}
 use native.Mathlib.Omega.{arith}
 use Rattle.numbers.specs.Numbers.{halfedgeNumber, vertexNumber}
 use Rattle.splitting.proofs.Net.{live-there, round-kept}
-use Rattle.split.proofs.Loops.{Relabelling, relabelling-begins, turned-live, relabelling-on, relabelling-done}
+use Rattle.fanwalks.proofs.Loops.{Relabelling, relabelling-begins, turned-live, relabelling-on, relabelling-done}
 use borrow.Author.Needs.{needs}
-use Rattle.split.proofs.relabel_fan.Statement.{statement}
-use Rattle.split.proofs.relabel_fan.Tie as tie
+use Rattle.fanwalks.proofs.relabel_fan.Statement.{statement}
+use Rattle.fanwalks.proofs.relabel_fan.Tie as tie
 
 abbrev Inv-loop : tie.InvT-loop
 Inv-loop rows₀ halfedges x home c₀ left₀ rows c left = Relabelling halfedges (halfedgeNumber c₀) (vertexNumber x) rows₀ rows (halfedgeNumber c) left

@@ -1,14 +1,14 @@
--- `split::flag_fan` meets its contract: what is still to be walked, put to what is done, is the whole walk.
+-- `fanwalks::flag_fan` meets its contract: what is still to be walked, put to what is done, is the whole walk.
 use mathlib.Core.Path.{_≡_, refl, sym, ap, _∙_}
 use mathlib.Core.Logic.{inl, inr}
 use Prim.Native.Nat.{_-_}
 use native.Mathlib.Omega.{arith}
 use lib.Dec.{eqb}
 use Rattle.numbers.specs.Numbers.{halfedgeNumber}
-use Rattle.split.proofs.Loops.{Flagging, flagging-begins, flagging-on, flagging-done, flagging-ends}
+use Rattle.fanwalks.proofs.Loops.{Flagging, flagging-begins, flagging-on, flagging-done, flagging-ends}
 use borrow.Author.Needs.{needs}
-use Rattle.split.proofs.flag_fan.Statement.{statement}
-use Rattle.split.proofs.flag_fan.Tie as tie
+use Rattle.fanwalks.proofs.flag_fan.Statement.{statement}
+use Rattle.fanwalks.proofs.flag_fan.Tie as tie
 
 abbrev Inv-loop : tie.InvT-loop
 Inv-loop rows work₀ halfedges home c₀ left₀ work c left = Flagging rows halfedges (halfedgeNumber c₀) work₀ work (halfedgeNumber c) left

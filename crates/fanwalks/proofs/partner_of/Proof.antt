@@ -1,12 +1,12 @@
--- `split::partner_of` meets its contract: a live half-edge has its partner in use, so its pair names one.
+-- `fanwalks::partner_of` meets its contract: a live half-edge has its partner in use, so its pair names one.
 use mathlib.Core.Path.{sym, ap, _∙_}
 use lib.IntN.{natAbs}
 use Rattle.numbers.specs.Numbers.{halfedgeNumber, halfedgeNamed}
 use Rattle.numbers.proofs.Names.{names-is, names-below, names-at, nothing-not-at}
 use Rattle.rows.specs.Halfedges.{pairOf}
 use borrow.Author.Needs.{needs}
-use Rattle.split.proofs.partner_of.Statement.{statement}
-use Rattle.split.proofs.partner_of.Tie as tie
+use Rattle.fanwalks.proofs.partner_of.Statement.{statement}
+use Rattle.fanwalks.proofs.partner_of.Tie as tie
 
 pair-of-requires : tie.Need-pair-of-requires
 pair-of-requires c κs = search needs
