@@ -16,6 +16,9 @@ use Rattle.rows.specs.Triples.{triple, put-triple, zero-triples}
 use Rattle.net.specs.Counts.{is-shaped, triangle-capacity-over, vertex-capacity-over, property-capacity-over}
 use Rattle.net.specs.Sound.{turn}
 use Rattle.example.specs.Example.{rows, positions, P-rows, P-positions, counts, bare}
+use Rattle.folds.specs.Folds.{lose, lose-folded, has-pair, joined, join, cleared, clear, take-out, fold-at, fold}
+use Rattle.folds.specs.RemoveIfFolded.{Out, foldNamed, removeIfFolded}
+use Rattle.pairing.specs.Pairing.{paired}
 use Rattle.soundness.specs.Check.{checkNet}
 use Rattle.soundness.specs.Order.{live, in-order, first-failing}
 use Rattle.splitting.specs.Split.{Outcome, split-sound, splitPinched}
@@ -59,6 +62,9 @@ six = positions ++ replicate 3 0
 abbrev with-six : List ℤ
 with-six = split-with six .halfedges
 
+abbrev remove-P : Out
+remove-P = removeIfFolded (counts 6 3) (bare P-rows P-positions) (pos 0)
+
 abbrev update-P : ℤ → ℤ → Said
 update-P start end = updateVert (counts 6 3) (bare P-rows P-positions) (pos 0) start end .0
 
@@ -82,11 +88,15 @@ table =
     ∷ (short-3-4 (pos 5) (pos 6) gives long (exact (pos 25)) (exact (pos 25)))
     ∷ (done (float (limitOf (pos 1) (pos 2) (toleranceOf (exact (negsuc 0)) (exact (pos 6))) (exact (pos 6))) ∷ []) gives done (float (exact (pos 36)) ∷ []))
     ∷ (short-3-4 (negsuc 0) (pos 6) gives done [])
+    -- P, remove_if_folded at 0: all dead, props −1, three NaN positions
+    ∷ (remove-P .0 gives done [])
+    ∷ (numbers (remove-P .1 .0) gives numbers (replicate 24 (negsuc 0)))
+    ∷ (numbers (map pos (remove-P .1 .1)) gives numbers (replicate 9 (pos 0x7FF8000000000000)))
     -- P, update_vert from 0 to 1, and from 0 to 0
     ∷ (update-P (pos 0) (pos 1) gives stopped)
     ∷ (update-P (pos 0) (pos 0) gives done [])
     ∷ []
 
 pub table-holds : map (λ (k : Case). k .gives) table ≡ map (λ (k : Case). k .is) table
-unfolding splitPinched split-sound count count-step split-rows split-step flag-walk relabel-walk fan-walk walk-end ℕ-discrete triple put-triple zero-triples next nextZ no-next column set-column add sub mul lt ofInt ofBits is-shaped triangle-capacity-over vertex-capacity-over property-capacity-over checkNet live in-order first-failing updateVert updateNamed updateAt reaches walk onward moved
+unfolding removeIfFolded foldNamed fold fold-at take-out clear cleared join joined has-pair lose-folded lose paired splitPinched split-sound count count-step split-rows split-step flag-walk relabel-walk fan-walk walk-end ℕ-discrete triple put-triple zero-triples next nextZ no-next column set-column add sub mul lt ofInt ofBits is-shaped triangle-capacity-over vertex-capacity-over property-capacity-over checkNet live in-order first-failing updateVert updateNamed updateAt reaches walk onward moved
 table-holds = refl
