@@ -77,6 +77,14 @@ typedef struct {
     size_t row;
 } spoonferret_row_answer;
 
+/* added: vertices copied; steps: half-edges visited; row: the least row not in order. */
+typedef struct {
+    uint32_t number;
+    size_t row;
+    size_t added;
+    size_t steps;
+} spoonferret_split_answer;
+
 /* The next half-edge of h's triangle: h + 1, or h - 2 where h + 1 divides by 3. Negative numbers too: next of -1 is -3.
    0: next holds it. 4: h is 2147483647 or -2147483647, which have none. */
 spoonferret_next_answer spoonferret_next_halfedge(int32_t h);
@@ -107,6 +115,20 @@ spoonferret_answer spoonferret_pair_up(spoonferret_used used, int32_t *halfedges
                                        const uint64_t *positions, size_t positions_length, const uint64_t *normals,
                                        size_t normals_length, const int32_t *references, size_t references_length,
                                        const uint64_t *properties, size_t properties_length, int32_t first, int32_t second);
+
+/* Gives each fan a start vertex of its own. Rising over half-edges, the first fan at a vertex keeps it; each later fan gets a copy of
+   the position, appended behind the used.vertices rows, and its number on every start in the fan and on the end of every partner.
+   work needs used.halfedges + used.vertices elements, visit used.halfedges.
+   0: done; the net has used.vertices + added vertices, and visit's first steps elements are the half-edges in visiting order: of each fan
+   each half-edge after a turn, so that its first comes last. 1: shape. 2: work or visit is too short. 3: not sound; row. 9: a fan does not
+   close (a sound net's fans all close). 6: more copies than free vertex rows; those rows read zero.
+   After 0, 6 and 9 work reads zero over the needed length; after 1, 2 and 3 work and visit are as they were; visit is written only on 0. */
+spoonferret_split_answer spoonferret_split_pinched_verts(spoonferret_used used, int32_t *halfedges, size_t halfedges_length,
+                                                         uint64_t *positions, size_t positions_length, const uint64_t *normals,
+                                                         size_t normals_length, const int32_t *references,
+                                                         size_t references_length, const uint64_t *properties,
+                                                         size_t properties_length, uint32_t *work, size_t work_length,
+                                                         uint32_t *visit, size_t visit_length);
 
 #ifdef __cplusplus
 }

@@ -1,7 +1,7 @@
 //! Each entry: how it is called between guards, what is owed, and what it is asked. A new entry is a line of `ALL` and these functions.
 
 use crate::chance::Chance;
-use crate::lent::{signed, Asked, GuardedNet, Lent, Said};
+use crate::lent::{signed, Asked, Guarded, GuardedNet, Lent, Said};
 use crate::reading::{self, caught, Ran};
 use original::linalg::{dot, Vec3};
 use spoonferret::raw;
@@ -15,7 +15,11 @@ pub struct Entry {
     pub ours: fn(&mut Lent, &Asked) -> Result<Said, String>,
     pub owed: fn(&mut Lent, &Asked) -> Said,
     pub asks: fn(&Lent, &mut Chance) -> Vec<Asked>,
+    /// the buffers that it takes, one short, exact, long, and filled with anything
+    pub lends: fn(&mut Lent, &mut Chance),
 }
+
+fn no_buffers(_: &mut Lent, _: &mut Chance) {}
 
 pub enum Field {
     Signed(&'static str),
@@ -25,11 +29,20 @@ pub enum Field {
 use Field::{Plain, Signed};
 
 pub const ALL: &[Entry] = &[
-    Entry { name: "next_halfedge", on_nets: false, fields: &[Signed("next")], ours: next_ours, owed: next_owed, asks: edge_numbers },
-    Entry { name: "tri_of", on_nets: false, fields: &[Signed("first"), Signed("second"), Signed("third")], ours: tri_ours, owed: tri_owed, asks: edge_numbers },
-    Entry { name: "short_test", on_nets: false, fields: &[Plain("squared_length"), Plain("limit")], ours: short_ours, owed: short_owed, asks: short_asks },
-    Entry { name: "check_net", on_nets: true, fields: &[Plain("row")], ours: check_ours, owed: check_owed, asks: |_, _| Asked::nothing() },
-    Entry { name: "pair_up", on_nets: true, fields: &[], ours: pair_ours, owed: pair_owed, asks: pair_asks },
+    Entry { name: "next_halfedge", on_nets: false, fields: &[Signed("next")], ours: next_ours, owed: next_owed, asks: edge_numbers, lends: no_buffers },
+    Entry { name: "tri_of", on_nets: false, fields: &[Signed("first"), Signed("second"), Signed("third")], ours: tri_ours, owed: tri_owed, asks: edge_numbers, lends: no_buffers },
+    Entry { name: "short_test", on_nets: false, fields: &[Plain("squared_length"), Plain("limit")], ours: short_ours, owed: short_owed, asks: short_asks, lends: no_buffers },
+    Entry { name: "check_net", on_nets: true, fields: &[Plain("row")], ours: check_ours, owed: check_owed, asks: |_, _| Asked::nothing(), lends: no_buffers },
+    Entry { name: "pair_up", on_nets: true, fields: &[], ours: pair_ours, owed: pair_owed, asks: pair_asks, lends: no_buffers },
+    Entry {
+        name: "split_pinched_verts",
+        on_nets: true,
+        fields: &[Plain("row"), Plain("added"), Plain("steps")],
+        ours: split_ours,
+        owed: split_owed,
+        asks: |_, _| vec![Asked::default(); 3],
+        lends: split_lends,
+    },
 ];
 
 // next_halfedge, tri_of: the Rust's sum that wraps is answer 4
@@ -308,4 +321,84 @@ fn pair_asks(l: &Lent, chance: &mut Chance) -> Vec<Asked> {
     all.push(Asked::numbers(&[a[4], b[4]]));
     all.push(Asked::numbers(&[a[4], a[4]]));
     all
+}
+
+// split_pinched_verts: the Rust's sequential arm; the visit list and the work buffer are document 01's own
+
+/// So many elements, mostly enough, holding anything.
+fn lent_about<T>(needed: usize, chance: &mut Chance, of: impl Fn(u64) -> T) -> Vec<T> {
+    // counts that no net can have are answer 1 whatever is lent
+    let needed = if needed > 5_000_000 { 20 } else { needed };
+    let length = match chance.below(8) {
+        0 => needed.saturating_sub(1),
+        1 => 0,
+        2 | 3 => needed,
+        _ => needed + 1 + chance.below(4),
+    };
+    (0..length).map(|_| of(chance.bits() | 1)).collect()
+}
+
+fn split_lends(l: &mut Lent, chance: &mut Chance) {
+    l.work_words = lent_about(l.used.halfedges.saturating_add(l.used.vertices), chance, |b| b as u32);
+    l.list = lent_about(l.used.halfedges, chance, |b| b as u32);
+}
+
+fn split_ours(l: &mut Lent, _: &Asked) -> Result<Said, String> {
+    let mut g = GuardedNet::of(l);
+    let (mut work, mut list) = (Guarded::new(&l.work_words), Guarded::new(&l.list));
+    let told = unsafe {
+        raw::spoonferret_split_pinched_verts(
+            g.used,
+            g.halfedges.at(),
+            g.halfedges.length(),
+            g.positions.at(),
+            g.positions.length(),
+            g.normals.at(),
+            g.normals.length(),
+            g.references.at(),
+            g.references.length(),
+            g.properties.at(),
+            g.properties.length(),
+            work.at(),
+            work.length(),
+            list.at(),
+            list.length(),
+        )
+    };
+    g.back(l)?;
+    work.back("work buffer", &mut l.work_words)?;
+    list.back("visit list", &mut l.list)?;
+    l.used.vertices += told.added;
+    Ok(Said::with(told.number, &[told.row as u64, told.added as u64, told.steps as u64]))
+}
+
+fn split_owed(l: &mut Lent, _: &Asked) -> Said {
+    let refused = |number: u32, row: u64| Said::with(number, &[row, 0, 0]);
+    if reading::misshapen(l) {
+        return refused(1, 0);
+    }
+    let (rows, vertices) = (l.used.halfedges, l.used.vertices);
+    if l.work_words.len() < rows + vertices || l.list.len() < rows {
+        return refused(2, 0);
+    }
+    if let Some(row) = reading::first_unsound(l) {
+        return refused(3, row as u64);
+    }
+    let visited = reading::visited(l);
+    l.work_words[..rows + vertices].fill(0);
+    match reading::run(l, original::edge_op::split_pinched_verts) {
+        Ran::Done(()) => {
+            for (entry, h) in l.list.iter_mut().zip(&visited) {
+                *entry = *h as u32;
+            }
+            Said::with(0, &[0, (l.used.vertices - vertices) as u64, visited.len() as u64])
+        }
+        Ran::NoRoom => {
+            // the steps had filled every free vertex row
+            let most = reading::vertex_capacity(l);
+            l.positions[3 * vertices..3 * most].fill(0);
+            refused(6, 0)
+        }
+        Ran::Stopped => refused(7, 0),
+    }
 }

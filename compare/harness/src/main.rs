@@ -40,7 +40,8 @@ impl Line {
         self.differences += 1;
         let size = net.size();
         if self.smallest.as_ref().is_none_or(|(least, _)| size < *least) {
-            self.smallest = Some((size, format!("{}: {wrong}\n{}", entry.name, replay::call(which, net, asked))));
+            let buffers = (&net.work_bytes, &net.work_words, &net.work_longs, &net.list);
+            self.smallest = Some((size, format!("{}: {wrong}\n{}{buffers:?}\n", entry.name, replay::call(which, net, asked))));
         }
     }
 }
@@ -71,7 +72,9 @@ impl Table {
             let mut asks = (entry.asks)(net, chance);
             chance.shuffle(&mut asks);
             for asked in asks.iter().take(most) {
-                self.run(which, net, asked);
+                let mut lent = net.clone();
+                (entry.lends)(&mut lent, chance);
+                self.run(which, &lent, asked);
             }
         }
     }
@@ -190,8 +193,22 @@ fn compare(times: usize, chance: &mut Chance) {
     report(table);
 }
 
+/// Document 01's example, one vertex pinched, with so many vertices in use and room for more.
+fn pinched_with(vertices: usize, lent: usize) -> Lent {
+    let starts = [0, 1, 2, 1, 0, 2, 0, 3, 4, 3, 0, 4];
+    let pairs = [3, 5, 4, 0, 2, 1, 9, 11, 10, 6, 8, 7];
+    let mut net = nets::net_of(&starts, &pairs, vertices);
+    net.positions.resize(3 * lent, 0x4008_0000_0000_0000);
+    net
+}
+
 /// Arrays as long as the bounds and a row longer, counts at and beside them.
 fn bounds(table: &mut Table, chance: &mut Chance) {
+    for vertices in [999_998, 999_999, 1_000_000] {
+        for _ in 0..3 {
+            table.on_with(&pinched_with(vertices, 1_000_002), 3, chance);
+        }
+    }
     let mut net = Lent::default();
     net.halfedges = [-1, -1, -1, 7].repeat(3_000_003);
     net.positions = vec![0x3FF0_0000_0000_0000; 3_000_003];

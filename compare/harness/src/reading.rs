@@ -187,3 +187,25 @@ pub fn run<T>(l: &mut Lent, f: impl FnOnce(&mut ManifoldImpl) -> T) -> Ran<T> {
         }
     }
 }
+
+/// The visit list of a sound net: "rising over half-edges", of each fan not yet visited "each half-edge after a turn, so a fan's first comes last".
+pub fn visited(l: &Lent) -> Vec<usize> {
+    let mut seen = vec![false; l.used.halfedges];
+    let mut list = vec![];
+    for h in 0..l.used.halfedges {
+        if seen[h] || row(l, h).pair < 0 {
+            continue;
+        }
+        let mut c = h;
+        loop {
+            let p = row(l, c).pair as usize;
+            c = p / 3 * 3 + (p + 1) % 3;
+            seen[c] = true;
+            list.push(c);
+            if c == h {
+                break;
+            }
+        }
+    }
+    list
+}

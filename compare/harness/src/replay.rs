@@ -98,12 +98,15 @@ fn any_net(chance: &mut Chance) -> Lent {
 const CALLS: usize = 100;
 const MOST_BYTES: usize = 65_000;
 
+/// How many entries, the first of the table, the program calls so far.
+const IN_PROGRAM: usize = 5;
+
 /// Writes data/ENTRY, args and stdout of the program's folder: for each entry 100 calls or as many as its file holds, the answers that it gives in
 /// turn, so that each is there as often as it comes.
 pub fn write(folder: &Path, chance: &mut Chance) {
     let mut stdout = String::new();
     let mut args = String::new();
-    for (which, entry) in ALL.iter().enumerate() {
+    for (which, entry) in ALL.iter().enumerate().take(IN_PROGRAM) {
         // calls by the answer that is owed
         let mut by_number: BTreeMap<u32, Vec<(String, String)>> = BTreeMap::new();
         for _ in 0..if entry.on_nets { 400 } else { 4 } {

@@ -1,6 +1,8 @@
 -- What each exported function tells its caller of what was said: the number, and each value that came with it; 0 for a value
 -- that did not come.
+use mathlib.Core.Bool.{cond}
 use mathlib.Core.List.{List, [], _∷_}
+use lib.Dec.{eqb}
 use Prim.Native.Nat.{ℕ, zero, suc}
 use lib.IntN.{ℤ, pos, negsuc}
 use lib.Ieee.{binary64, toBits}
@@ -14,6 +16,8 @@ use Rattle.station.specs.declared.NextAnswer.{NextAnswer}
 use Rattle.station.specs.declared.TriAnswer.{TriAnswer}
 use Rattle.station.specs.declared.LengthAnswer.{LengthAnswer}
 use Rattle.station.specs.declared.RowAnswer.{RowAnswer}
+use Rattle.station.specs.declared.SplitAnswer.{SplitAnswer}
+use Rattle.splitting.specs.Split.{Outcome}
 
 abbrev pub counts-of : Used → Counts
 counts-of u =
@@ -61,3 +65,16 @@ row-told s = record { number = s .number; row = counted (value (s .values) 0) }
 -- what is told, beside what is left in the arrays
 abbrev pub and-left : {A B : Type 0} → (Said → B) → Said × A → B × A
 and-left tell (s, left) = (tell s, left)
+
+-- the count that came at a place with the answer k; 0 with another
+abbrev pub count-on : ℕ → Said → ℕ → ℕ
+count-on k s i = cond (eqb (s .number) k) (counted (value (s .values) i)) 0
+
+abbrev pub split-told : Said → SplitAnswer
+split-told s = record { number = s .number; row = count-on 3 s 0; added = count-on 0 s 0; steps = count-on 0 s 1 }
+
+abbrev pub split-refused : ℕ → SplitAnswer
+split-refused number = record { number = number; row = 0; added = 0; steps = 0 }
+
+abbrev pub split-left : Outcome → SplitAnswer × List ℤ × List ℕ × List ℕ × List ℕ
+split-left o = (split-told (o .said), o .halfedges, o .positions, o .work, o .visit)

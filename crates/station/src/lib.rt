@@ -6,13 +6,15 @@ ghost use Rattle.floats.specs.Short.{shortTest};
 ghost use Rattle.soundness.specs.Check.{checkNet};
 ghost use Rattle.net.specs.Net.{net};
 ghost use Rattle.pairing.specs.Pairing.{pairUp};
-ghost use Rattle.station.specs.Told.{told, next-told, tri-told, length-told, row-told, and-left, counts-of, vector-of};
+ghost use Rattle.splitting.specs.Split.{splitPinched};
+ghost use Rattle.station.specs.Told.{told, next-told, tri-told, length-told, row-told, and-left, split-left, split-refused, counts-of, vector-of};
 use floats::Length;
 use floats::Vec3;
 use numbers::Next;
 use numbers::Tri;
 use pairing::PairUp;
 use soundness::Checked;
+use split::Split;
 
 // How many rows of each array are in use, and how many numbers a property row has.
 #[repr(C)]
@@ -63,6 +65,15 @@ pub struct LengthAnswer {
 pub struct RowAnswer {
     pub number: u32,
     pub row: usize,
+}
+
+// How many vertices were added and half-edges visited.
+#[repr(C)]
+pub struct SplitAnswer {
+    pub number: u32,
+    pub row: usize,
+    pub added: usize,
+    pub steps: usize,
 }
 
 fn counts_of(used: Used) -> net::Counts
@@ -204,5 +215,59 @@ pub extern "C" fn spoonferret_pair_up(
         PairUp::Done => Answer { number: 0 },
         PairUp::Shape => Answer { number: 1 },
         PairUp::Number => Answer { number: 4 },
+    }
+}
+
+#[no_mangle]
+pub extern "C" fn spoonferret_split_pinched_verts(
+    used: Used,
+    halfedges: &mut [i32],
+    positions: &mut [u64],
+    normals: &[u64],
+    references: &[i32],
+    properties: &[u64],
+    work: &mut [u32],
+    visit: &mut [u32],
+) -> SplitAnswer
+    ensures { λ r. ⌜ (r, now (halfedges .exit), now (positions .exit), now (work .exit), now (visit .exit))
+        ≡ split-left (splitPinched (counts-of used) (net (now (halfedges .entry)) (now (positions .entry)) (now (normals .entry)) (now (references .entry)) (now (properties .entry))) (now (work .entry)) (now (visit .entry))) ⌝ }
+{
+    match split::split_pinched_verts(
+        counts_of(used),
+        halfedges,
+        positions,
+        normals,
+        references,
+        properties,
+        work,
+        visit,
+    ) {
+        Split::Done(added, steps) => SplitAnswer {
+            number: 0,
+            row: 0,
+            added,
+            steps,
+        },
+        Split::Shape => split_refused(1),
+        Split::ShortBuffer => split_refused(2),
+        Split::Unsound(h) => SplitAnswer {
+            number: 3,
+            row: h.number(),
+            added: 0,
+            steps: 0,
+        },
+        Split::OpenFan => split_refused(9),
+        Split::NoRoom => split_refused(6),
+    }
+}
+
+fn split_refused(number: u32) -> SplitAnswer
+    ensures { λ r. ⌜ r ≡ split-refused number ⌝ }
+{
+    SplitAnswer {
+        number,
+        row: 0,
+        added: 0,
+        steps: 0,
     }
 }

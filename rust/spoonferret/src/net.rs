@@ -76,4 +76,54 @@ impl Net {
         };
         Refusal::unless_done(told.number, ())
     }
+
+    /// Gives each fan a start vertex of its own: the first at a vertex keeps it, each later one gets a copy of the position behind the others.
+    /// The half-edges visited, fan by fan.
+    ///
+    /// ```
+    /// use spoonferret::{Halfedge, Net, Vec3};
+    /// // two two-sided triangles that meet at vertex 0
+    /// let rows = [
+    ///     [0, 1, 3], [1, 2, 5], [2, 0, 4], [1, 0, 0], [0, 2, 2], [2, 1, 1],
+    ///     [0, 3, 9], [3, 4, 11], [4, 0, 10], [3, 0, 6], [0, 4, 8], [4, 3, 7],
+    /// ];
+    /// let mut net = Net {
+    ///     halfedges: rows.iter().map(|r| Halfedge::new(r[0], r[1], r[2], -1)).collect(),
+    ///     positions: (0..5).map(|i| Vec3::new(i as f64, 0.0, 0.0)).collect(),
+    ///     ..Net::default()
+    /// };
+    /// assert_eq!(net.split_pinched_verts(), Ok(vec![4, 0, 3, 1, 5, 2, 10, 6, 9, 7, 11, 8]));
+    /// assert_eq!(net.positions.len(), 6);
+    /// assert_eq!(net.positions[5], net.positions[0]);
+    /// assert_eq!((net.halfedges[6].start_vert, net.halfedges[8].end_vert), (5, 5));
+    /// ```
+    pub fn split_pinched_verts(&mut self) -> Result<Vec<u32>, Refusal> {
+        let used = self.used();
+        // a fan has two half-edges or more, so copies are at most half of them
+        self.positions.resize(used.vertices + used.halfedges / 2, Vec3::default());
+        let mut work = vec![0u32; used.halfedges + used.vertices];
+        let mut visit = vec![0u32; used.halfedges];
+        let told = unsafe {
+            raw::spoonferret_split_pinched_verts(
+                used,
+                self.halfedges.as_mut_ptr().cast(),
+                self.halfedges.len() * 4,
+                self.positions.as_mut_ptr().cast(),
+                self.positions.len() * 3,
+                self.normals.as_ptr().cast(),
+                self.normals.len() * 3,
+                self.references.as_ptr().cast(),
+                self.references.len() * 3,
+                self.properties.as_ptr().cast(),
+                self.properties.len(),
+                work.as_mut_ptr(),
+                work.len(),
+                visit.as_mut_ptr(),
+                visit.len(),
+            )
+        };
+        self.positions.truncate(used.vertices + told.added);
+        visit.truncate(told.steps);
+        Refusal::unless_sound_and_done(told.number, told.row, visit)
+    }
 }

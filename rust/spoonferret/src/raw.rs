@@ -47,6 +47,14 @@ pub struct RowAnswer {
     pub row: usize,
 }
 
+#[repr(C)]
+pub struct SplitAnswer {
+    pub number: u32,
+    pub row: usize,
+    pub added: usize,
+    pub steps: usize,
+}
+
 extern "C" {
     pub fn spoonferret_next_halfedge(h: i32) -> NextAnswer;
 
@@ -90,4 +98,22 @@ extern "C" {
         first: i32,
         second: i32,
     ) -> Answer;
+
+    pub fn spoonferret_split_pinched_verts(
+        used: Used,
+        halfedges: *mut i32,
+        halfedges_length: usize,
+        positions: *mut u64,
+        positions_length: usize,
+        normals: *const u64,
+        normals_length: usize,
+        references: *const i32,
+        references_length: usize,
+        properties: *const u64,
+        properties_length: usize,
+        work: *mut u32,
+        work_length: usize,
+        visit: *mut u32,
+        visit_length: usize,
+    ) -> SplitAnswer;
 }
