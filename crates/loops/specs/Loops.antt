@@ -1,0 +1,44 @@
+-- Forming a loop: the step of form_loop on a net in the middle of an operation, as a row of steps.
+use mathlib.Core.Bool.{cond}
+use mathlib.Core.List.{List}
+use Prim.Native.Nat.{ℕ, _+_}
+use lib.Dec.{leb}
+use lib.IntN.{ℤ}
+use Rattle.numbers.specs.Numbers.{names, named-or}
+use Rattle.rows.specs.Halfedges.{Column, start, end, column, pairOf}
+use Rattle.rows.specs.Triples.{triple, put-triple}
+use Rattle.pairing.specs.Pairing.{paired}
+use Rattle.steps.specs.Steps.{Middle, middle, running, refused, Going, NoRoom, Stopped, ended, with-rows}
+use Rattle.walks.specs.Walk.{update}
+use Rattle.folds.specs.Folds.{fold}
+
+-- a copy of the position of v behind the vertices in use, up to the capacity
+unfoldable pub append : ℕ → ℕ → Middle → Middle
+append capacity v m =
+    cond (leb capacity (m .run .vertices)) (ended NoRoom m)
+    (middle (m .halfedges) (put-triple (m .run .vertices) (triple (m .positions) v) (m .positions)) (running (m .run .vertices + 1) Going))
+
+-- a copy of the position where row h starts or ends
+unfoldable pub copy : Column → ℕ → ℕ → Middle → Middle
+copy c capacity h m =
+    cond (refused m) m (named-or (ended Stopped m) (names (column c (m .halfedges) h) (m .run .vertices)) (λ v. append capacity v m))
+
+-- a is paired with q, then b with p
+unfoldable pub exchange : ℕ → ℕ → ℕ → ℕ → Middle → Middle
+exchange a b p q m = cond (refused m) m (with-rows (paired b p (paired a q (m .halfedges))) m)
+
+-- both sides are updated to the new vertices v and w, the partners p of a and q of b exchanged, and what has folded at b taken out
+unfoldable pub cross-at : ℕ → ℕ → ℕ → ℕ → ℕ → ℕ → ℕ → Middle → Middle
+cross-at H v w a b p q m = fold H b (exchange a b p q (update H w b a (update H v p q m)))
+
+unfoldable pub cross : ℕ → ℕ → ℕ → ℕ → ℕ → Middle → Middle
+cross H v w a b m =
+    cond (refused m) m
+    (named-or (ended Stopped m) (names (pairOf (m .halfedges) a) H) (λ p.
+    named-or (ended Stopped m) (names (pairOf (m .halfedges) b) H) (λ q.
+    cross-at H v w a b p q m)))
+
+-- the step: the positions of start and end of a are appended, then the net is joined the other way
+unfoldable pub loop-at : ℕ → ℕ → ℕ → ℕ → Middle → Middle
+loop-at H capacity a b m =
+    cross H (m .run .vertices) (m .run .vertices + 1) a b (copy end capacity a (copy start capacity a m))
