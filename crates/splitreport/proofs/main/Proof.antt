@@ -17,21 +17,21 @@ read-full-requires c κs = search needs
 array-share-prefix-text : tie.Need-array-share-prefix-text
 array-share-prefix-text c = search needs
 
-slice-aggregate-run : tie.Need-slice-aggregate-run
-slice-aggregate-run c = search needs
+slice-aggregate-split-file : tie.Need-slice-aggregate-split-file
+slice-aggregate-split-file c = search needs
 
-slice-aggregate-run-2 : tie.Need-slice-aggregate-run-2
-slice-aggregate-run-2 c = search needs
+slice-aggregate-split-file-2 : tie.Need-slice-aggregate-split-file-2
+slice-aggregate-split-file-2 c = search needs
 
-run-requires : tie.Need-run-requires
-run-requires c κs = search needs
+split-file-requires : tie.Need-split-file-requires
+split-file-requires c κs = search needs
 
 array-share-prefix-out : tie.Need-array-share-prefix-out
 array-share-prefix-out c = search needs
 
 slice-aggregate-write-all : tie.Need-slice-aggregate-write-all
 slice-aggregate-write-all c =
-    let r = c .before .before .run in
+    let r = c .before .before .split-file in
     sym (length-take-le (r .result) (r .last .1 .0) (rw (r .kept .1 .0) (r .ensures)))
 
 write-all-requires : tie.Need-write-all-requires
@@ -48,9 +48,9 @@ main-spec =
     slice-aggregate-read-full
     read-full-requires
     array-share-prefix-text
-    slice-aggregate-run
-    slice-aggregate-run-2
-    run-requires
+    slice-aggregate-split-file
+    slice-aggregate-split-file-2
+    split-file-requires
     array-share-prefix-out
     slice-aggregate-write-all
     write-all-requires
