@@ -65,6 +65,22 @@ pub fn paired(tri: &[i32], k: usize) -> bool
     0 <= tri[WIDTH * k + PAIR]
 }
 
+// The corner's pair is −1.
+pub fn unpaired(tri: &[i32], k: usize) -> bool
+    requires { ⌜ k < lent-halfedges (now tri) ⌝ }
+    ensures { λ r. ⌜ r ≡ eqZ (pairOf (now (tri .entry)) k) none ⌝ }
+{
+    none_at(tri, WIDTH * k + PAIR)
+}
+
+// Two corners end at the same vertex.
+pub fn same_end(tri: &[i32], j: usize, k: usize) -> bool
+    requires { ⌜ (j < lent-halfedges (now tri)) × (k < lent-halfedges (now tri)) ⌝ }
+    ensures { λ r. ⌜ r ≡ eqZ (endOf (now (tri .entry)) j) (endOf (now (tri .entry)) k) ⌝ }
+{
+    same_at(tri, WIDTH * j + END, tri, WIDTH * k + END)
+}
+
 // Two corners start at the same vertex.
 pub fn same_start(tri: &[i32], j: usize, k: usize) -> bool
     requires { ⌜ (j < lent-halfedges (now tri)) × (k < lent-halfedges (now tri)) ⌝ }

@@ -16,17 +16,12 @@ use numbers::NamedHalfedge;
 use soundness::Checked;
 use steps::Run;
 
-const END: usize = 1;
-
-const PAIR: usize = 2;
-
 // The pair of h is −1.
 pub fn unpaired(rows: &[i32], h: Halfedge) -> bool
     requires { ⌜ halfedgeNumber h < lent-halfedges (now rows) ⌝ }
     ensures { λ r. ⌜ r ≡ eqZ (pairOf (now (rows .entry)) (halfedgeNumber h)) none ⌝ }
 {
-    let row = rows::halfedges::from_row(rows, h);
-    row[PAIR] == -1
+    rows::corners::unpaired(rows, h.number())
 }
 
 // Two half-edges end at the same number.
@@ -34,9 +29,7 @@ pub fn same_end(rows: &[i32], g: Halfedge, h: Halfedge) -> bool
     requires { ⌜ (halfedgeNumber g < lent-halfedges (now rows)) × (halfedgeNumber h < lent-halfedges (now rows)) ⌝ }
     ensures { λ r. ⌜ r ≡ eqZ (endOf (now (rows .entry)) (halfedgeNumber g)) (endOf (now (rows .entry)) (halfedgeNumber h)) ⌝ }
 {
-    let one = rows::halfedges::from_row(rows, g);
-    let other = rows::halfedges::from_row(rows, h);
-    one[END] == other[END]
+    rows::corners::same_end(rows, g.number(), h.number())
 }
 
 // Empties the three rows of the triangle of e, and keeps their props.
