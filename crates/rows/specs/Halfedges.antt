@@ -48,12 +48,18 @@ propOf rows h = column prop rows h
 abbrev pub none : ℤ
 none = negsuc 0
 
--- tests of a row: start, end and pair are empty; the pair is 0 or more
+-- tests of a row: start, end and pair are empty; the pair, the start, the end is 0 or more
 abbrev pub is-empty : List ℤ → ℕ → Bool
 is-empty rows h = eqZ (startOf rows h) none && eqZ (endOf rows h) none && eqZ (pairOf rows h) none
 
 abbrev pub is-paired : List ℤ → ℕ → Bool
 is-paired rows h = leZ (pos 0) (pairOf rows h)
+
+abbrev pub is-started : List ℤ → ℕ → Bool
+is-started rows h = leZ (pos 0) (startOf rows h)
+
+abbrev pub is-ended : List ℤ → ℕ → Bool
+is-ended rows h = leZ (pos 0) (endOf rows h)
 
 -- row h with start, end and pair emptied
 abbrev pub empty-row : ℕ → List ℤ → List ℤ

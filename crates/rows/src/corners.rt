@@ -8,7 +8,7 @@ ghost use lib.ListN.{length, getD};
 ghost use lib.Signed.{leZ};
 ghost use Rattle.laws.specs.Integers.{eqZ};
 ghost use Rattle.numbers.specs.Numbers.{names, halfedgeNumber, halfedgeNamed, is-named};
-ghost use Rattle.rows.specs.Halfedges.{startOf, endOf, pairOf, none, is-empty, is-paired, lent-halfedges};
+ghost use Rattle.rows.specs.Halfedges.{startOf, endOf, pairOf, none, is-empty, is-paired, is-started, is-ended, lent-halfedges};
 use crate::halfedges::END;
 use crate::halfedges::PAIR;
 use crate::halfedges::START;
@@ -22,6 +22,14 @@ fn none_at(s: &[i32], i: usize) -> bool
     ensures { λ r. ⌜ r ≡ eqZ (getD (now (s .entry)) i (pos 0)) none ⌝ }
 {
     s[i] == -1
+}
+
+// The number at i is 0 or more.
+fn counts_at(s: &[i32], i: usize) -> bool
+    requires { ⌜ i < length (now s) ⌝ }
+    ensures { λ r. ⌜ r ≡ leZ (pos 0) (getD (now (s .entry)) i (pos 0)) ⌝ }
+{
+    0 <= s[i]
 }
 
 // The number at i is n.
@@ -62,7 +70,23 @@ pub fn paired(tri: &[i32], k: usize) -> bool
     requires { ⌜ k < lent-halfedges (now tri) ⌝ }
     ensures { λ r. ⌜ r ≡ is-paired (now (tri .entry)) k ⌝ }
 {
-    0 <= tri[WIDTH * k + PAIR]
+    counts_at(tri, WIDTH * k + PAIR)
+}
+
+// The corner has a start that is 0 or more.
+pub fn started(tri: &[i32], k: usize) -> bool
+    requires { ⌜ k < lent-halfedges (now tri) ⌝ }
+    ensures { λ r. ⌜ r ≡ is-started (now (tri .entry)) k ⌝ }
+{
+    counts_at(tri, WIDTH * k + START)
+}
+
+// The corner has an end that is 0 or more.
+pub fn ended(tri: &[i32], k: usize) -> bool
+    requires { ⌜ k < lent-halfedges (now tri) ⌝ }
+    ensures { λ r. ⌜ r ≡ is-ended (now (tri .entry)) k ⌝ }
+{
+    counts_at(tri, WIDTH * k + END)
 }
 
 // The corner's pair is −1.

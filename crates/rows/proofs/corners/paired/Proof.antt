@@ -1,27 +1,21 @@
 -- `rows::corners::paired` meets its contract.
-use mir.Facts.{toZ-ofZ}
-use Rattle.laws.proofs.Integers.{fit}
 use Rattle.rows.specs.Halfedges.{column}
 use borrow.Author.Needs.{needs}
 use Rattle.rows.proofs.corners.paired.Statement.{statement}
 use Rattle.rows.proofs.corners.paired.Tie as tie
 
-mul-result : tie.Need-mul-result
-mul-result c = search needs
+mul-counts-at : tie.Need-mul-counts-at
+mul-counts-at c = search needs
 
-add-result : tie.Need-add-result
-add-result c = search needs
+add-counts-at : tie.Need-add-counts-at
+add-counts-at c = search needs
 
-mul-result-2 : tie.Need-mul-result-2
-mul-result-2 c = search needs
-
-shared-slice-copy-out-result : tie.Need-shared-slice-copy-out-result
-shared-slice-copy-out-result c = search needs
+counts-at-requires : tie.Need-counts-at-requires
+counts-at-requires c κs = search needs
 
 returns : tie.Need-returns
 unfolding column
-returns c = rw (toZ-ofZ (fit (c .result .given)))
+returns c = c .counts-at .ensures
 
 pub paired-spec : {M : Type 1} → statement M
-paired-spec =
-    tie.close (tie.spec mul-result add-result mul-result-2 shared-slice-copy-out-result returns)
+paired-spec = tie.close (tie.spec mul-counts-at add-counts-at counts-at-requires returns)
