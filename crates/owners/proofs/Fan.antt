@@ -21,28 +21,28 @@ use Rattle.owners.specs.Tests.{closes}
 use Rattle.owners.specs.Scan.{Back}
 use Rattle.owners.proofs.Below.{all-yes, all-true}
 
--- a pair of 0 or more, by its test
-paired-by : (z : ℤ) → leZ (pos 0) z ≡ true → z ≡ pos (natAbs z)
-paired-by (pos n) e = refl
-paired-by (negsuc n) e = absurd (true≢false (sym e))
+-- a number of 0 or more, by its test
+pub counts-yes : (z : ℤ) → leZ (pos 0) z ≡ true → z ≡ pos (natAbs z)
+counts-yes (pos n) e = refl
+counts-yes (negsuc n) e = absurd (true≢false (sym e))
 
-by-paired : (z : ℤ) → z ≡ pos (natAbs z) → leZ (pos 0) z ≡ true
-by-paired (pos n) e = le-leb 0 n (omega arith)
-by-paired (negsuc n) e = absurd (pos-ne-negsuc _ _ (sym e))
+pub counts-true : (z : ℤ) → z ≡ pos (natAbs z) → leZ (pos 0) z ≡ true
+counts-true (pos n) e = le-leb 0 n (omega arith)
+counts-true (negsuc n) e = absurd (pos-ne-negsuc _ _ (sym e))
 
-unpaired-by : (z : ℤ) → leZ (pos 0) z ≡ false → (k : ℕ) × (z ≡ negsuc k)
-unpaired-by (pos n) e = not-both (leZ (pos 0) (pos n)) (le-leb 0 n (omega arith)) e
-unpaired-by (negsuc n) e = (n, refl)
+counts-no : (z : ℤ) → leZ (pos 0) z ≡ false → (k : ℕ) × (z ≡ negsuc k)
+counts-no (pos n) e = not-both (leZ (pos 0) (pos n)) (le-leb 0 n (omega arith)) e
+counts-no (negsuc n) e = (n, refl)
 
 module _ (rows : List ℤ) (h : ℕ) where
   pub paired-yes : is-paired rows h ≡ true → Paired rows h
-  paired-yes e = paired-by (pairOf rows h) e
+  paired-yes e = counts-yes (pairOf rows h) e
 
   pub paired-true : Paired rows h → is-paired rows h ≡ true
-  paired-true p = by-paired (pairOf rows h) p
+  paired-true p = counts-true (pairOf rows h) p
 
   pub paired-no : is-paired rows h ≡ false → Unpaired rows h
-  paired-no e = unpaired-by (pairOf rows h) e
+  paired-no e = counts-no (pairOf rows h) e
 
   pub unpaired-not : Unpaired rows h → Paired rows h → ⊥
   unpaired-not u p = pos-ne-negsuc _ _ (sym p ∙ u .1)

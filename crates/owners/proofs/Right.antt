@@ -5,46 +5,35 @@ use mathlib.Core.List.{List}
 use mathlib.Core.Logic.{_⊎_, inl, inr}
 use Prim.Native.Nat.{ℕ, _<_}
 use borrow.Author.Tests.{eq-eqb, eqb-true}
-use lib.IntN.{ℤ, pos, negsuc, natAbs}
+use lib.IntN.{ℤ, pos, natAbs}
 use Rattle.laws.proofs.Tests.{by-test, and2, both2, not-both, is-false}
-use Rattle.numbers.specs.Numbers.{Named, at, nothing, names, is-named}
+use Rattle.numbers.specs.Numbers.{Named, at, nothing, names}
 use Rattle.numbers.proofs.Names.{names-is, names-below, names-at}
-use Rattle.rows.specs.Halfedges.{startOf, endOf, pairOf, is-paired}
-use Rattle.net.specs.Sound.{start-vertex, end-vertex, partner, Paired, turn}
+use Rattle.rows.specs.Halfedges.{startOf, endOf, pairOf, is-paired, is-started, is-ended}
+use Rattle.net.specs.Sound.{partner, Paired, turn}
 use Rattle.turning.specs.Fan.{iter}
 use Rattle.turning.proofs.Least.{Least, None, least}
 use Rattle.owners.specs.declared.Eligible.{Eligible}
 use Rattle.owners.specs.declared.Eligible.the-variants as E
-use Rattle.owners.specs.Words.{IsEligible, Rows32, PointsBack, RunsOut, NoOwners, Owner}
-use Rattle.owners.specs.Tests.{numbers, all-below, eligible, is-back, back-by, points-back, closes, closes-if, owns, has-owners}
+use Rattle.owners.specs.Words.{IsEligible, PointsBack, RunsOut, NoOwners, Owner}
+use Rattle.owners.specs.Tests.{all-below, eligible, is-back, back-by, points-back, closes, closes-if, owns, has-owners}
 use Rattle.owners.specs.Scan.{InUse, Back}
 use Rattle.owners.proofs.Below.{all-yes, all-stop, all-no}
-use Rattle.owners.proofs.Fan.{Closed, paired-yes, paired-true, paired-no, unpaired-not, closes-yes}
+use Rattle.owners.proofs.Fan.{Closed, counts-yes, counts-true, paired-yes, paired-true, paired-no, unpaired-not, closes-yes}
 use Rattle.owners.proofs.Scanning.{owns-eligible, owns-true, owns-leads}
 
--- ---- a number of 0 or more
-named-yes : (z : ℤ) (limit : ℕ) → is-named (names z limit) ≡ true → z ≡ pos (natAbs z)
-named-yes (pos n) limit e = refl
-named-yes (negsuc n) limit e = not-both false e refl
-
-named-true : (z : ℤ) (limit : ℕ) → z ≡ pos (natAbs z) → natAbs z < limit → is-named (names z limit) ≡ true
-named-true z limit e l = rw (names-at z limit (natAbs z) e l)
-
-module _ (rows : List ℤ) (R : Rows32 rows) where
+-- ---- start, or start and end, of 0 or more
+module _ (rows : List ℤ) where
   pub eligible-yes : (e : Eligible) (h : ℕ) → eligible e rows h ≡ true → IsEligible e rows h
   unfolding eligible
-  eligible-yes E.Start h t = named-yes (startOf rows h) numbers t
+  eligible-yes E.Start h t = counts-yes (startOf rows h) t
   eligible-yes E.StartAndEnd h t =
-      let p = and2 (is-named (names (startOf rows h) numbers)) (is-named (names (endOf rows h) numbers)) t in
-      (named-yes (startOf rows h) numbers (p .0), named-yes (endOf rows h) numbers (p .1))
+      let p = and2 (is-started rows h) (is-ended rows h) t in (counts-yes (startOf rows h) (p .0), counts-yes (endOf rows h) (p .1))
 
   pub eligible-true : (e : Eligible) (h : ℕ) → IsEligible e rows h → eligible e rows h ≡ true
   unfolding eligible
-  eligible-true E.Start h p = named-true (startOf rows h) numbers p (R .starts h (start-vertex rows h) p)
-  eligible-true E.StartAndEnd h p =
-      both2
-      (named-true (startOf rows h) numbers (p .0) (R .starts h (start-vertex rows h) (p .0)))
-      (named-true (endOf rows h) numbers (p .1) (R .ends h (end-vertex rows h) (p .1)))
+  eligible-true E.Start h p = counts-true (startOf rows h) p
+  eligible-true E.StartAndEnd h p = both2 (counts-true (startOf rows h) (p .0)) (counts-true (endOf rows h) (p .1))
 
 -- ---- a pair that points back
 module _ (H : ℕ) (rows : List ℤ) where
@@ -114,7 +103,7 @@ or-false : (a b : Bool) → not a || b ≡ false → (a ≡ true) × (b ≡ fals
 or-false true b e = (refl, e)
 or-false false b e = not-both true refl e
 
-module _ (e : Eligible) (H : ℕ) (rows : List ℤ) (U : InUse H rows) (R : Rows32 rows) where
+module _ (e : Eligible) (H : ℕ) (rows : List ℤ) (U : InUse H rows) where
   pub none-words : has-owners e H rows ≡ false → NoOwners e H rows
   unfolding has-owners
   none-words t =
@@ -128,7 +117,7 @@ module _ (e : Eligible) (H : ℕ) (rows : List ℤ) (U : InUse H rows) (R : Rows
       out : (h : ℕ) × (h < H) × (closes-if e H rows h ≡ false) → (h : ℕ) × (h < H) × IsEligible e rows h × RunsOut rows h
       out s =
           let p = or-false (eligible e rows (s .0)) (closes H rows (s .0)) (s .2) in
-          (s .0, s .1, eligible-yes rows R e (s .0) (p .0), runs-out H rows (s .0) (p .1))
+          (s .0, s .1, eligible-yes rows e (s .0) (p .0), runs-out H rows (s .0) (p .1))
 
   pub words-none : NoOwners e H rows → has-owners e H rows ≡ false
   unfolding has-owners
@@ -137,7 +126,7 @@ module _ (e : Eligible) (H : ℕ) (rows : List ℤ) (U : InUse H rows) (R : Rows
       rw (all-stop (points-back H rows) H (w .0) (w .1) f)
   words-none (inr w) =
       by-test (all-below (points-back H rows) H)
-      (λ a. rw (a, all-stop (closes-if e H rows) H (w .0) (w .1) (rw (eligible-true rows R e (w .0) (w .2), out-false H rows (w .0) (back-yes H rows U a) (w .1) (w .3)))))
+      (λ a. rw (a, all-stop (closes-if e H rows) H (w .0) (w .1) (rw (eligible-true rows e (w .0) (w .2), out-false H rows (w .0) (back-yes H rows U a) (w .1) (w .3)))))
       (λ a. rw a)
 
   -- ---- the owners
@@ -156,10 +145,10 @@ module _ (e : Eligible) (H : ℕ) (rows : List ℤ) (U : InUse H rows) (R : Rows
         let y = owns-eligible e H rows h q in
         record {
           in-use = l;
-          eligible = eligible-yes rows R e h y;
-          least = λ g r p. owns-leads e H rows all-back h (eligible-closed h l y) q g r (eligible-true rows R e g p);
+          eligible = eligible-yes rows e h y;
+          least = λ g r p. owns-leads e H rows all-back h (eligible-closed h l y) q g r (eligible-true rows e g p);
         }
 
     pub owner-owns : (h : ℕ) → Owner e H rows h → owns e H rows h ≡ true
     owner-owns h o =
-        owns-true e H rows h (eligible-true rows R e h (o .eligible)) (λ g r p. o .least g r (eligible-yes rows R e g p))
+        owns-true e H rows h (eligible-true rows e h (o .eligible)) (λ g r p. o .least g r (eligible-yes rows e g p))

@@ -28,7 +28,7 @@ use Rattle.turning.proofs.Orbit.{reach-refl, reach-trans, reach-dec}
 use Rattle.owners.specs.declared.Eligible.{Eligible}
 use Rattle.owners.specs.declared.Owners.{Owners}
 use Rattle.owners.specs.declared.Owners.the-variants as O
-use Rattle.owners.specs.Words.{IsEligible, Rows32, NoOwners, Owner, IsList}
+use Rattle.owners.specs.Words.{IsEligible, NoOwners, Owner, IsList}
 use Rattle.owners.specs.Tests.{eligible, owns, has-owners, owners}
 use Rattle.owners.specs.Scan.{Outcome, outcome, cleared, listed, scan, buffers-long, orbitOwners, ownersSaid, InUse}
 use Rattle.owners.specs.Promise.{IsDone}
@@ -53,18 +53,18 @@ abbrev Hit : Eligible → List ℤ → ℕ → ℕ → Type 0
 Hit e rows h g = Reach (turn rows) h g × (eligible e rows g ≡ true)
 
 -- ---- the list of owners
-module _ (e : Eligible) (H : ℕ) (rows : List ℤ) (U : InUse H rows) (R : Rows32 rows) (t : has-owners e H rows ≡ true) where
+module _ (e : Eligible) (H : ℕ) (rows : List ℤ) (U : InUse H rows) (t : has-owners e H rows ≡ true) where
   pub is-list : IsList e H rows (owners e H rows)
   unfolding owners
   is-list = record {
     rising = those-rise (owns e H rows) H;
-    once = λ h o. those-once (owns e H rows) H h (o .in-use) (owner-owns e H rows U R t h o);
-    no-other = λ h n. those-only (owns e H rows) H h (λ l q. n (owns-owner e H rows U R t h l q));
+    once = λ h o. those-once (owns e H rows) H h (o .in-use) (owner-owns e H rows U t h o);
+    no-other = λ h n. those-only (owns e H rows) H h (λ l q. n (owns-owner e H rows U t h l q));
   }
 
   owner-dec : (h : ℕ) → Dec (Owner e H rows h)
   owner-dec h = elim (decLt h H) [
-    | yes l ↦ by-test (owns e H rows h) (λ q. yes (owns-owner e H rows U R t h l q)) (λ q. no (λ o. not-both (owns e H rows h) (owner-owns e H rows U R t h o) q))
+    | yes l ↦ by-test (owns e H rows h) (λ q. yes (owns-owner e H rows U t h l q)) (λ q. no (λ o. not-both (owns e H rows h) (owner-owns e H rows U t h o) q))
     | no q ↦ no (λ o. q (o .in-use))
   ]
 
@@ -76,31 +76,31 @@ module _ (e : Eligible) (H : ℕ) (rows : List ℤ) (U : InUse H rows) (R : Rows
   owner-there h l p = go (least (Hit e rows h) dec H)
     where
       c : Closed H rows h
-      c = eligible-closed e H rows U R t h l (eligible-true rows R e h p)
+      c = eligible-closed e H rows U t h l (eligible-true rows e h p)
 
       dec : (g : ℕ) → Dec (Hit e rows h g)
-      dec g = elim (reach-dec (fans H rows (all-back e H rows U R t)) h c g) [
+      dec g = elim (reach-dec (fans H rows (all-back e H rows U t)) h c g) [
         | yes r ↦ by-test (eligible e rows g) (λ q. yes (r, q)) (λ q. no (λ z. not-both (eligible e rows g) (z .1) q))
         | no r ↦ no (λ z. r (z .0))
       ]
 
       go : Least (Hit e rows h) H ⊎ None (Hit e rows h) H → (g : ℕ) × Owner e H rows g × Reach (turn rows) h g
-      go (inr n) = absurd (n h l (reach-refl (turn rows) h, eligible-true rows R e h p))
+      go (inr n) = absurd (n h l (reach-refl (turn rows) h, eligible-true rows e h p))
       go (inl m) = (
         m .0,
         record {
           in-use = m .1;
-          eligible = eligible-yes rows R e (m .0) (m .2 .1);
+          eligible = eligible-yes rows e (m .0) (m .2 .1);
           least = λ k r q. elim (decLe (m .0) k) [
             | yes y ↦ y
-            | no y ↦ absurd (m .3 k (omega arith) (reach-trans (turn rows) (m .2 .0) r, eligible-true rows R e k q))
+            | no y ↦ absurd (m .3 k (omega arith) (reach-trans (turn rows) (m .2 .0) r, eligible-true rows e k q))
           ];
         },
         m .2 .0,
       )
 
 -- ---- the entry
-module _ (e : Eligible) (c : Counts) (n : Net) (work list : List ℕ) (R : Rows32 (n .halfedges)) where
+module _ (e : Eligible) (c : Counts) (n : Net) (work list : List ℕ) where
   abbrev H : ℕ
   H = c .halfedges
 
@@ -126,7 +126,7 @@ module _ (e : Eligible) (c : Counts) (n : Net) (work list : List ℕ) (R : Rows3
       (λ s. by-test (buffers-long H work list)
       (λ b. by-test (has-owners e H rows)
       (λ t. f (shaped-yes c n s) (long-yes H work list b) t (rw (s, b, t)))
-      (λ t. r (shaped-yes c n s) (long-yes H work list b) (none-words e H rows (in-use (shaped-yes c n s)) R t) (rw (s, b, t))))
+      (λ t. r (shaped-yes c n s) (long-yes H work list b) (none-words e H rows (in-use (shaped-yes c n s)) t) (rw (s, b, t))))
       (λ b. q (shaped-yes c n s) (λ z. not-both (buffers-long H work list) (long-true H work list z) b) (rw (s, b))))
       (λ s. p (shaped-no c n s) (rw s))
 
@@ -140,7 +140,7 @@ module _ (e : Eligible) (c : Counts) (n : Net) (work list : List ℕ) (R : Rows3
       (λ m q. (λ z. numbers-differ (sym (said-of q) ∙ z) (λ y. omega arith), λ w. absurd (m (w .0))))
       (λ s m q. (λ z. numbers-differ (sym (said-of q) ∙ z) (λ y. omega arith), λ w. absurd (m (w .1))))
       (λ s b w q. (λ z. (s, b, w), λ z. said-of q))
-      (λ s b t q. (λ z. numbers-differ (sym (said-of q) ∙ z) (λ y. omega arith), λ w. not-both (has-owners e H rows) t (words-none e H rows (in-use s) R (w .2))))
+      (λ s b t q. (λ z. numbers-differ (sym (said-of q) ∙ z) (λ y. omega arith), λ w. not-both (has-owners e H rows) t (words-none e H rows (in-use s) (w .2))))
 
   -- answers 1 and 2
   pub says-shape : (result .said ≡ shape) ↔ (Shaped c n → ⊥)
@@ -191,11 +191,11 @@ module _ (e : Eligible) (c : Counts) (n : Net) (work list : List ℕ) (R : Rows3
         length (owners e H rows),
         record {
           said = said-of q;
-          listed = subst (IsList e H rows) (sym (front q)) (is-list e H rows (in-use s) R t);
+          listed = subst (IsList e H rows) (sym (front q)) (is-list e H rows (in-use s) t);
           counted = ap length (front q);
           rest = ap (λ (x : Outcome). drop (length (owners e H rows)) (x .list)) q ∙ drop-at (owners e H rows) (drop (length (owners e H rows)) list) (length (owners e H rows)) refl;
-          each-fan = owner-there e H rows (in-use s) R t;
-          count-is = owners-counted e H rows (in-use s) R t;
+          each-fan = owner-there e H rows (in-use s) t;
+          count-is = owners-counted e H rows (in-use s) t;
           work-is = ap (λ (x : Outcome). x .work) q;
         },
       ))

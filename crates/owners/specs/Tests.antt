@@ -4,8 +4,8 @@ use mathlib.Core.List.{List, [], _∷_, _++_}
 use Prim.Native.Nat.{ℕ, zero, suc}
 use lib.Dec.{eqb, leb}
 use lib.IntN.{ℤ}
-use Rattle.numbers.specs.Numbers.{Named, at, nothing, names, is-named}
-use Rattle.rows.specs.Halfedges.{startOf, endOf, pairOf, is-paired}
+use Rattle.numbers.specs.Numbers.{Named, at, nothing, names}
+use Rattle.rows.specs.Halfedges.{pairOf, is-paired, is-started, is-ended}
 use Rattle.net.specs.Sound.{turn}
 use Rattle.turning.specs.Fan.{iter}
 use Rattle.owners.specs.declared.Eligible.{Eligible}
@@ -20,14 +20,10 @@ unfoldable pub those-below : (ℕ → Bool) → ℕ → List ℕ
 those-below f zero = []
 those-below f (suc n) = those-below f n ++ cond (f n) (n ∷ []) []
 
--- one more than the greatest number that a row can hold, 2147483647: so a row's number is 0 or more exactly when it is in 0..numbers
-abbrev pub numbers : ℕ
-numbers = 2147483648
-
 -- start, or start and end, are 0 or more
 unfoldable pub eligible : Eligible → List ℤ → ℕ → Bool
-eligible E.Start rows h = is-named (names (startOf rows h) numbers)
-eligible E.StartAndEnd rows h = is-named (names (startOf rows h) numbers) && is-named (names (endOf rows h) numbers)
+eligible E.Start rows h = is-started rows h
+eligible E.StartAndEnd rows h = is-started rows h && is-ended rows h
 
 -- the pair of p is h
 abbrev pub is-back : ℕ → Named → Bool

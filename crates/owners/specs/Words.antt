@@ -17,11 +17,6 @@ abbrev pub IsEligible : Eligible → List ℤ → ℕ → Type 0
 IsEligible E.Start rows h = startOf rows h ≡ pos (start-vertex rows h)
 IsEligible E.StartAndEnd rows h = (startOf rows h ≡ pos (start-vertex rows h)) × (endOf rows h ≡ pos (end-vertex rows h))
 
--- the rows hold numbers of 32 bits: none is above 2147483647
-pub record Rows32 (rows : List ℤ) : Type 0 where
-  pub starts : (h n : ℕ) → startOf rows h ≡ pos n → n < 2147483648
-  pub ends : (h n : ℕ) → endOf rows h ≡ pos n → n < 2147483648
-
 -- a row without pair: any pair below 0
 abbrev pub Unpaired : List ℤ → ℕ → Type 0
 Unpaired rows h = (k : ℕ) × (pairOf rows h ≡ negsuc k)

@@ -6,17 +6,16 @@ ghost use Prim.Native.Nat.{ℕ, _<_, _≤_};
 ghost use lib.Dec.{eqb};
 ghost use lib.ListN.{length, getD, drop};
 ghost use Rattle.numbers.specs.Next.{most-halfedges};
-ghost use Rattle.numbers.specs.Numbers.{halfedgeNumber, names, is-named};
-ghost use Rattle.rows.specs.Halfedges.{startOf, endOf, pairOf, lent-halfedges};
+ghost use Rattle.numbers.specs.Numbers.{halfedgeNumber, names};
+ghost use Rattle.rows.specs.Halfedges.{pairOf, lent-halfedges};
 ghost use Rattle.net.specs.Net.{net};
-ghost use Rattle.owners.specs.Tests.{numbers, all-below, those-below, is-back, points-back, closes, closes-if, owns};
+ghost use Rattle.owners.specs.Tests.{all-below, those-below, is-back, points-back, closes, closes-if, owns};
 ghost use Rattle.owners.specs.Tests.{eligible as is-eligible};
 ghost use Rattle.owners.specs.Scan.{outcome, listed, scan, orbitOwners, ownersSaid, InUse, Back};
 ghost use Rattle.owners.specs.Marks.{Marked, Stepped, Scanned};
 use net::Counts;
 use numbers::Halfedge;
 use numbers::NamedHalfedge;
-use numbers::NamedVertex;
 
 // Which half-edges count: those with start ≥ 0, or with start and end ≥ 0.
 pub enum Eligible {
@@ -32,43 +31,19 @@ pub enum Owners {
     NoOwners,
 }
 
-// One more than the greatest number that a row can hold.
-const NUMBERS: usize = 2_147_483_648;
-
 const MET: u8 = 1;
 
 const OWNER: u8 = 2;
-
-// The start of h is 0 or more.
-fn has_start(rows: &[i32], h: Halfedge) -> bool
-    requires { ⌜ halfedgeNumber h < lent-halfedges (now rows) ⌝ }
-    ensures { λ r. ⌜ r ≡ is-named (names (startOf (now (rows .entry)) (halfedgeNumber h)) numbers) ⌝ }
-{
-    match rows::halfedges::start_of(rows, h, NUMBERS) {
-        NamedVertex::At(_) => true,
-        NamedVertex::Nothing => false,
-    }
-}
-
-// The end of h is 0 or more.
-fn has_end(rows: &[i32], h: Halfedge) -> bool
-    requires { ⌜ halfedgeNumber h < lent-halfedges (now rows) ⌝ }
-    ensures { λ r. ⌜ r ≡ is-named (names (endOf (now (rows .entry)) (halfedgeNumber h)) numbers) ⌝ }
-{
-    match rows::halfedges::end_of(rows, h, NUMBERS) {
-        NamedVertex::At(_) => true,
-        NamedVertex::Nothing => false,
-    }
-}
 
 // h counts, by the caller's choice.
 fn is_eligible(rows: &[i32], h: Halfedge, eligible: Eligible) -> bool
     requires { ⌜ halfedgeNumber h < lent-halfedges (now rows) ⌝ }
     ensures { λ r. ⌜ r ≡ is-eligible eligible (now (rows .entry)) (halfedgeNumber h) ⌝ }
 {
+    let k = h.number();
     match eligible {
-        Eligible::Start => has_start(rows, h),
-        Eligible::StartAndEnd => has_start(rows, h) & has_end(rows, h),
+        Eligible::Start => rows::corners::started(rows, k),
+        Eligible::StartAndEnd => rows::corners::started(rows, k) & rows::corners::ended(rows, k),
     }
 }
 
