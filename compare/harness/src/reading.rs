@@ -198,8 +198,7 @@ pub fn visited(l: &Lent) -> Vec<usize> {
         }
         let mut c = h;
         loop {
-            let p = row(l, c).pair as usize;
-            c = p / 3 * 3 + (p + 1) % 3;
+            c = next(row(l, c).pair as usize);
             seen[c] = true;
             list.push(c);
             if c == h {
@@ -208,4 +207,214 @@ pub fn visited(l: &Lent) -> Vec<usize> {
         }
     }
     list
+}
+
+fn next(h: usize) -> usize {
+    h / 3 * 3 + (h + 1) % 3
+}
+
+fn tri_of(h: usize) -> [usize; 3] {
+    [h, next(h), next(next(h))]
+}
+
+/// Answers 1 to 5 of an operation on a sound net, in their order, for the half-edges and vertices that its caller names; with 3 its row.
+fn refused_before(l: &Lent, fits: bool, halfedges: &[i32], vertices: &[i32]) -> Option<(u32, u64)> {
+    if misshapen(l) {
+        return Some((1, 0));
+    }
+    if !fits {
+        return Some((2, 0));
+    }
+    if let Some(row) = first_unsound(l) {
+        return Some((3, row as u64));
+    }
+    if halfedges.iter().any(|&h| no_halfedge(l, h)) || vertices.iter().any(|&v| v < 0 || v as usize >= l.used.vertices) {
+        return Some((4, 0));
+    }
+    // of a sound net: a row without pair is dead
+    halfedges.iter().any(|&h| row(l, h as usize).pair < 0).then_some((5, 0))
+}
+
+/// Module 9, the entry: "The answer lists, rising, the least eligible half-edge of each fan that has one."
+pub fn orbit_owners(l: &mut Lent, end_too: bool) -> Said {
+    let rows = l.used.halfedges;
+    if misshapen(l) {
+        return Said::with(1, &[0]);
+    }
+    if l.work_bytes.len() < rows || l.list.len() < rows {
+        return Said::with(2, &[0]);
+    }
+    l.work_bytes[..rows].fill(0);
+    let Some(owners) = owners(l, end_too) else {
+        return Said::with(10, &[0]);
+    };
+    for (entry, &h) in l.list.iter_mut().zip(&owners) {
+        *entry = h as u32;
+    }
+    Said::with(0, &[owners.len() as u64])
+}
+
+fn owners(l: &Lent, end_too: bool) -> Option<Vec<usize>> {
+    let rows = l.used.halfedges;
+    let eligible = |h: usize| row(l, h).start >= 0 && (!end_too || row(l, h).end >= 0);
+    let points_back = |h: usize| match row(l, h).pair {
+        p if p < 0 => true,
+        p => (p as usize) < rows && row(l, p as usize).pair as i64 == h as i64,
+    };
+    if !(0..rows).all(points_back) {
+        return None;
+    }
+    let mut seen = vec![false; rows];
+    let mut owners = vec![];
+    for h in (0..rows).filter(|&h| eligible(h)) {
+        if seen[h] {
+            continue;
+        }
+        owners.push(h);
+        let mut c = h;
+        loop {
+            let p = row(l, c).pair;
+            if p < 0 {
+                return None;
+            }
+            c = next(p as usize);
+            seen[c] = true;
+            if c == h {
+                break;
+            }
+        }
+    }
+    Some(owners)
+}
+
+/// The rows from start to end, end not among them: "go to that next row's pair". None where it "has made H moves and has not finished".
+fn way(l: &Lent, start: usize, end: usize) -> Option<Vec<usize>> {
+    let mut way = vec![];
+    let mut current = start;
+    while current != end {
+        if way.len() == l.used.halfedges {
+            return None;
+        }
+        way.push(current);
+        current = row(l, next(current)).pair as usize;
+    }
+    Some(way)
+}
+
+/// "Set end of the current row, start of its next row", from start to end; whether it gets there.
+fn updated(l: &mut Lent, vertex: i32, start: usize, end: usize) -> bool {
+    let Some(way) = way(l, start, end) else {
+        return false;
+    };
+    for h in way {
+        l.halfedges[4 * h + 1] = vertex;
+        l.halfedges[4 * next(h)] = vertex;
+    }
+    true
+}
+
+/// Module 5, the entry. There is no spare: nothing is written where it is refused.
+pub fn update_vert(l: &mut Lent, vertex: i32, start: i32, end: i32) -> Said {
+    if let Some((number, row)) = refused_before(l, true, &[start, end], &[vertex]) {
+        return Said::with(number, &[row]);
+    }
+    let number = if updated(l, vertex, start as usize, end as usize) { 0 } else { 7 };
+    Said::with(number, &[0])
+}
+
+fn paired(l: &mut Lent, a: usize, b: usize) {
+    l.halfedges[4 * a + 2] = b as i32;
+    l.halfedges[4 * b + 2] = a as i32;
+}
+
+/// Module 6, the entry: "pairs the partners of its second and third rows, then empties three rows and keeps prop_vert".
+pub fn collapse_tri(l: &mut Lent, halfedge: i32) -> Said {
+    if let Some((number, row)) = refused_before(l, true, &[halfedge], &[]) {
+        return Said::with(number, &[row]);
+    }
+    let three = tri_of(halfedge as usize);
+    let partners = three.map(|h| row(l, h).pair as usize);
+    paired(l, partners[1], partners[2]);
+    for h in three {
+        l.halfedges[4 * h..4 * h + 3].fill(-1);
+    }
+    Said::with(0, &[0])
+}
+
+/// Module 7: the two triangles at e, taken out where they have folded.
+fn unfolded(l: &mut Lent, e: usize) {
+    let (one, other) = (tri_of(e), tri_of(row(l, e).pair as usize));
+    let pair = |h: usize| row(l, h).pair as usize;
+    let (former, latter) = (pair(one[1]) == other[2], pair(one[2]) == other[1]);
+    if row(l, one[1]).end != row(l, other[1]).end || !(former || latter) {
+        return;
+    }
+    let lost: &[usize] = match (former, latter) {
+        (true, true) => &one,
+        (true, false) => &one[1..2],
+        _ => &other[1..2],
+    };
+    let outer = [(pair(one[1]), pair(other[2])), (pair(one[2]), pair(other[1]))];
+    for &h in lost {
+        let v = l.halfedges[4 * h] as usize;
+        l.positions[3 * v..3 * v + 3].fill(0x7FF8_0000_0000_0000);
+    }
+    for (a, b) in outer {
+        paired(l, a, b);
+    }
+    for h in one.into_iter().chain(other) {
+        l.halfedges[4 * h..4 * h + 4].fill(-1);
+    }
+}
+
+/// Module 7, the entry.
+pub fn remove_if_folded(l: &mut Lent, halfedge: i32) -> Said {
+    if let Some((number, row)) = refused_before(l, true, &[halfedge], &[]) {
+        return Said::with(number, &[row]);
+    }
+    unfolded(l, halfedge as usize);
+    Said::with(0, &[0])
+}
+
+/// Answers 1 to 5 of form_loop; past them "the spare holds the rows as at entry".
+fn refused_with_spare(l: &mut Lent, halfedges: &[i32]) -> Option<(u32, u64)> {
+    let (rows, vertices) = (l.used.halfedges, l.used.vertices);
+    let fits = l.spare_halfedges.len() / 4 >= rows && l.spare_positions.len() / 3 >= vertices;
+    let refused = refused_before(l, fits, halfedges, &[]);
+    if refused.is_none() {
+        l.spare_halfedges[..4 * rows].copy_from_slice(&l.halfedges[..4 * rows]);
+        l.spare_positions[..3 * vertices].copy_from_slice(&l.positions[..3 * vertices]);
+    }
+    refused
+}
+
+/// Module 8, the entry: it says the vertices in use where it is done.
+pub fn form_loop(l: &mut Lent, first: i32, second: i32) -> Said {
+    if let Some((number, row)) = refused_with_spare(l, &[first, second]) {
+        return Said::with(number, &[row, 0]);
+    }
+    let (rows, vertices) = (l.used.halfedges, l.used.vertices);
+    let (a, b) = (first as usize, second as usize);
+    let copied = [row(l, a).start, row(l, a).end].map(|v| v as usize);
+    // what is free takes the copies; a refusal reads zero there
+    let free = (vertex_capacity(l) - vertices).min(2);
+    let filled = 3 * vertices..3 * (vertices + free);
+    if free < 2 {
+        l.positions[filled].fill(0);
+        return Said::with(6, &[0, 0]);
+    }
+    for (k, v) in copied.into_iter().enumerate() {
+        l.positions.copy_within(3 * v..3 * v + 3, 3 * (vertices + k));
+    }
+    let (p, q) = (row(l, a).pair as usize, row(l, b).pair as usize);
+    if !(updated(l, vertices as i32, p, q) && updated(l, vertices as i32 + 1, b, a)) {
+        l.halfedges[..4 * rows].copy_from_slice(&l.spare_halfedges[..4 * rows]);
+        l.positions[filled].fill(0);
+        return Said::with(7, &[0, 0]);
+    }
+    paired(l, a, q);
+    paired(l, b, p);
+    unfolded(l, b);
+    l.used.vertices = vertices + 2;
+    Said::with(0, &[0, l.used.vertices as u64])
 }
