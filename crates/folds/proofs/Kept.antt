@@ -28,7 +28,7 @@ use Rattle.folds.specs.Folds.{nan, most, lose, lose-folded, has-pair, jo
 abbrev pub Fits : Middle → Type 0
 Fits m = m .run .vertices ≤ lent-triples (m .positions)
 
-length-cleared : (h : ℕ) (l : List ℤ) → length (cleared h l) ≡ length l
+pub length-cleared : (h : ℕ) (l : List ℤ) → length (cleared h l) ≡ length l
 unfolding cleared
 length-cleared h l = length-written prop h none _ ∙ length-empty h l
 
@@ -72,7 +72,7 @@ module _ {H : ℕ} where
       frame-rows m _ (m .run .how) (y .behind H b-in c-in ∙ x .behind H a-in d-in) (y .same-length ∙ x .same-length))
       (frame-ended m Stopped)) (frame-ended m Stopped)) (frame-ended m Stopped)) (frame-ended m Stopped))
 
-  cleared-free : (h : ℕ) (l : List ℤ) → h < H → rows-from H (cleared h l) ≡ rows-from H l
+  pub cleared-free : (h : ℕ) (l : List ℤ) → h < H → rows-from H (cleared h l) ≡ rows-from H l
   unfolding cleared
   cleared-free h l b = written-below prop h H none _ b ∙ emptied-below h H l b
 

@@ -1,0 +1,166 @@
+-- What clearing a row, the three rows of a triangle and the rows of two leaves in every column of every row; and with it what
+-- taking two triangles out leaves, but for the pairs of the other rows.
+use mathlib.Core.Path.{_≡_, _∙_}
+use mathlib.Core.List.{List}
+use Prim.Native.Nat.{ℕ, _%_, _<_, _≤_}
+use native.Mathlib.Decide.{ℕ-discrete}
+use native.Mathlib.Omega.{arith}
+use lib.IntN.{ℤ, pos}
+use lib.ListN.{length}
+use Rattle.numbers.specs.Next.{next}
+use Rattle.rows.specs.Halfedges.{Column, start, end, pair, prop, column, none, lent-halfedges, rows-from, empty-row}
+use Rattle.rows.proofs.Columns.{column-written, other-column, other-row}
+use Rattle.pairing.specs.Pairing.{PairedUp, paired}
+use Rattle.pairing.proofs.Told.{paired-up}
+use Rattle.triangles.specs.Triangles.{Outside}
+use Rattle.triangles.proofs.Parts.{second-in, third-in}
+use Rattle.triangles.proofs.Emptied.{length-empty, empty-other, empty-here}
+use Rattle.folds.specs.Folds.{joined, cleared, cleared3}
+use Rattle.folds.proofs.Kept.{length-cleared, cleared-free}
+use Rattle.foldsound.specs.Removed.{Outer, Gone, TakenOut}
+
+-- one row
+module _ (h : ℕ) (l : List ℤ) where
+  cleared-other : (c : Column) (g : ℕ) → (g ≡ h → ⊥) → column c (cleared h l) g ≡ column c l g
+  unfolding cleared
+  cleared-other c g n = other-row c prop h g none _ n ∙ empty-other h l c g n
+
+  module _ (room : h < lent-halfedges l) where
+    cleared-here : Gone (cleared h l) h
+    unfolding cleared
+    cleared-here =
+        let d = empty-here h l room in
+        record {
+          empty = record {
+            start-none = other-column start prop h h none _ (λ e. omega arith) ∙ d .start-none;
+            end-none = other-column end prop h h none _ (λ e. omega arith) ∙ d .end-none;
+            pair-none = other-column pair prop h h none _ (λ e. omega arith) ∙ d .pair-none;
+          };
+          prop-none = column-written prop h none (empty-row h l) (rw (length-empty h l) room);
+        }
+
+    cleared-stays : (g : ℕ) → Gone l g → Gone (cleared h l) g
+    cleared-stays g d = go (ℕ-discrete g h)
+      where
+        go : Dec (g ≡ h) → Gone (cleared h l) g
+        go (yes e) = rw e cleared-here
+        go (no n) = record {
+          empty = record {
+            start-none = cleared-other start g n ∙ d .empty .start-none;
+            end-none = cleared-other end g n ∙ d .empty .end-none;
+            pair-none = cleared-other pair g n ∙ d .empty .pair-none;
+          };
+          prop-none = cleared-other prop g n ∙ d .prop-none;
+        }
+
+-- the triangle of e
+module _ (e : ℕ) (l : List ℤ) where
+  abbrev once : List ℤ
+  once = cleared e l
+
+  abbrev twice : List ℤ
+  twice = cleared (next e) once
+
+  abbrev thrice : List ℤ
+  thrice = cleared3 e (next e) (next (next e)) l
+
+  length-thrice : length thrice ≡ length l
+  length-thrice = length-cleared (next (next e)) twice ∙ length-cleared (next e) once ∙ length-cleared e l
+
+  thrice-other : (c : Column) (g : ℕ) → Outside e g → column c thrice g ≡ column c l g
+  thrice-other c g o =
+      cleared-other (next (next e)) twice c g (o .not-third) ∙ cleared-other (next e) once c g (o .not-second) ∙ cleared-other e l c g (o .not-first)
+
+  module _ (H : ℕ) (b : e < H) (thirds : H % 3 ≡ 0) where
+    thrice-free : rows-from H thrice ≡ rows-from H l
+    thrice-free =
+        cleared-free {H = H} (next (next e)) twice (third-in e H b thirds) ∙ cleared-free {H = H} (next e) once (second-in e H b thirds) ∙ cleared-free {H = H} e l b
+
+    module _ (lent : H ≤ lent-halfedges l) where
+      first-lent : e < lent-halfedges l
+      first-lent = omega arith
+
+      second-lent : next e < lent-halfedges once
+      second-lent = rw (length-cleared e l) (omega (arith, second-in e H b thirds))
+
+      third-lent : next (next e) < lent-halfedges twice
+      third-lent = rw (length-cleared (next e) once, length-cleared e l) (omega (arith, third-in e H b thirds))
+
+      thrice-stays : (g : ℕ) → Gone l g → Gone thrice g
+      thrice-stays g d = cleared-stays (next (next e)) twice third-lent g (cleared-stays (next e) once second-lent g (cleared-stays e l first-lent g d))
+
+      thrice-first : Gone thrice e
+      thrice-first = cleared-stays (next (next e)) twice third-lent e (cleared-stays (next e) once second-lent e (cleared-here e l first-lent))
+
+      thrice-second : Gone thrice (next e)
+      thrice-second = cleared-stays (next (next e)) twice third-lent (next e) (cleared-here (next e) once second-lent)
+
+      thrice-third : Gone thrice (next (next e))
+      thrice-third = cleared-here (next (next e)) twice third-lent
+
+-- both triangles, after the pairing
+module _ (e f : ℕ) (l : List ℤ) where
+  abbrev pub six : List ℤ
+  six = cleared3 f (next f) (next (next f)) (cleared3 e (next e) (next (next e)) l)
+
+  pub six-other : (c : Column) (g : ℕ) → Outer e f g → column c six g ≡ column c l g
+  six-other c g o = thrice-other f (thrice e l) c g (o .off-other) ∙ thrice-other e l c g (o .off-first)
+
+module _ (H a b c d : ℕ) (rows : List ℤ) (thirds : H % 3 ≡ 0) (lent : H ≤ lent-halfedges rows) (a-in : a < H) (b-in : b < H) (c-in : c < H) (d-in : d < H) where
+  pub first-two : PairedUp a d rows (paired a d rows)
+  first-two = paired-up a d rows (omega arith) (omega arith)
+
+  pub last-two : PairedUp b c (paired a d rows) (paired b c (paired a d rows))
+  last-two = let k = first-two .same-length in paired-up b c (paired a d rows) (omega arith) (omega arith)
+
+  joined-length : length (joined a b c d rows) ≡ length rows
+  unfolding joined
+  joined-length = last-two .same-length ∙ first-two .same-length
+
+  joined-column : (k : Column) → (k ≡ pair → ⊥) → (g : ℕ) → column k (joined a b c d rows) g ≡ column k rows g
+  unfolding joined
+  joined-column k n g = last-two .other-columns k n g ∙ first-two .other-columns k n g
+
+  joined-free : rows-from H (joined a b c d rows) ≡ rows-from H rows
+  unfolding joined
+  joined-free = last-two .behind H b-in c-in ∙ first-two .behind H a-in d-in
+
+  pub taken-out : (e f : ℕ) → e < H → f < H → TakenOut H e f rows (six e f (joined a b c d rows))
+  taken-out e f e-in f-in =
+      let j = joined a b c d rows in
+      let room : H ≤ lent-halfedges j = rw joined-length lent in
+      let room2 : H ≤ lent-halfedges (thrice e j) = rw (length-thrice e j) room in
+      record {
+        e-gone = thrice-stays f (thrice e j) H f-in thirds room2 e (thrice-first e j H e-in thirds room);
+        e1-gone = thrice-stays f (thrice e j) H f-in thirds room2 (next e) (thrice-second e j H e-in thirds room);
+        e2-gone = thrice-stays f (thrice e j) H f-in thirds room2 (next (next e)) (thrice-third e j H e-in thirds room);
+        f-gone = thrice-first f (thrice e j) H f-in thirds room2;
+        f1-gone = thrice-second f (thrice e j) H f-in thirds room2;
+        f2-gone = thrice-third f (thrice e j) H f-in thirds room2;
+        starts = λ g o. six-other e f j start g o ∙ joined-column start (λ q. let z : _≡_ {A = ℕ} 0 1 = cc in omega arith) g;
+        ends = λ g o. six-other e f j end g o ∙ joined-column end (λ q. let z : _≡_ {A = ℕ} 0 1 = cc in omega arith) g;
+        props = λ g o. six-other e f j prop g o ∙ joined-column prop (λ q. let z : _≡_ {A = ℕ} 0 1 = cc in omega arith) g;
+        behind = thrice-free f (thrice e j) H f-in thirds ∙ thrice-free e j H e-in thirds ∙ joined-free;
+        same-length = length-thrice f (thrice e j) ∙ length-thrice e j ∙ joined-length;
+      }
+
+  -- the pairs of the rows outside: of none of the four as it was, of each its new partner
+  pub joined-other : (g : ℕ) → (g ≡ a → ⊥) → (g ≡ b → ⊥) → (g ≡ c → ⊥) → (g ≡ d → ⊥) → column pair (joined a b c d rows) g ≡ column pair rows g
+  unfolding joined
+  joined-other g na nb nc nd = last-two .other-rows pair g nb nc ∙ first-two .other-rows pair g na nd
+
+  pub joined-b : column pair (joined a b c d rows) b ≡ pos c
+  unfolding joined
+  joined-b = last-two .first-pair
+
+  pub joined-c : column pair (joined a b c d rows) c ≡ pos b
+  unfolding joined
+  joined-c = last-two .second-pair
+
+  pub joined-a : (a ≡ b → ⊥) → (a ≡ c → ⊥) → column pair (joined a b c d rows) a ≡ pos d
+  unfolding joined
+  joined-a nb nc = last-two .other-rows pair a nb nc ∙ first-two .first-pair
+
+  pub joined-d : (d ≡ b → ⊥) → (d ≡ c → ⊥) → column pair (joined a b c d rows) d ≡ pos a
+  unfolding joined
+  joined-d nb nc = last-two .other-rows pair d nb nc ∙ first-two .second-pair

@@ -1,0 +1,6 @@
+pub mod Cleared
+pub mod Lost
+pub mod Edge
+pub mod InOrder
+pub mod Steps
+pub mod Told
