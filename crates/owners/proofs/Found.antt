@@ -20,10 +20,10 @@ module _ (n : ℕ) (work : List ℕ) where
   cleared-zero k l =
       List·getD-append (replicate (n - 0) 0) (drop n work) 0 k (omega (arith, length-replicate {A = ℕ} (n - 0) 0)) ∙ getD-replicate (n - 0) k 0 0 (omega arith)
 
-  -- what is cleared again, changed below n alone, is what it was cleared
-  pub cleared-again : (w : List ℕ) → drop n w ≡ drop n (cleared n work) → cleared n w ≡ cleared n work
-  cleared-again w e =
-      ap (λ (t : List ℕ). replicate (n - 0) 0 ++ t) (e ∙ drop-at (replicate (n - 0) 0) (drop n work) n (omega (arith, length-replicate {A = ℕ} (n - 0) 0)))
+  -- cleared again, having changed below n alone, it is as it was cleared first
+  pub cleared-again : (w w' : List ℕ) → drop n w ≡ drop n (cleared n work) → w' ≡ cleared n w → w' ≡ cleared n work
+  cleared-again w w' e q =
+      q ∙ ap (λ (t : List ℕ). replicate (n - 0) 0 ++ t) (e ∙ drop-at (replicate (n - 0) 0) (drop n work) n (omega (arith, length-replicate {A = ℕ} (n - 0) 0)))
 
 module _ (e : Eligible) (H : ℕ) (rows : List ℤ) (work list : List ℕ) where
   pub not-back : all-below (points-back H rows) H ≡ false → scan e H rows work list ≡ outcome no-owners (cleared H work) list
@@ -38,4 +38,4 @@ module _ (e : Eligible) (H : ℕ) (rows : List ℤ) (work list : List ℕ) where
       → scan e H rows work list ≡ outcome (done (whole (pos (length (those-below (λ g. eqb (getD w g 0) 2) H))) ∷ [])) (cleared H w) (listed (those-below (λ g. eqb (getD w g 0) 2) H) list)
   unfolding scan has-owners owners
   all-found w a s =
-      rw (a, ← s .told, those-same (λ g. eqb (getD w g 0) 2) (owns e H rows) H (s .owners-are refl), cleared-again H work w (s .beyond))
+      rw (a, ← s .told, those-same (λ g. eqb (getD w g 0) 2) (owns e H rows) H (s .owners-are refl), cleared-again H work w (cleared H w) (s .beyond) refl)

@@ -51,7 +51,7 @@ returns-2 c =
     let list = a .list .now in
     let k = sym (c .before .before .before .before .before .before .before .before .before .before .paired-back .ensures) ∙ not-false (c .before .before .before .before .before .before .before .before .before .before .paired-back .result) (c .before .before .before .before .before .before .before .before .before .if1 .left) in
     let s = rw (c .before .before .before .before .before .before .before .before .before .before .before .before .before .zero-u8 .ensures) at (c .before .before .before .before .before .before .before .mark-fans .ensures) in
-    rw (c .before .before .zero-u82 .ensures, cleared-again H work _ (s .beyond))
+    rw (cleared-again H work _ _ (s .beyond) (c .before .before .zero-u82 .ensures))
     (sym (not-closed (a .eligible) H rows work list k (sym (s .told) ∙ not-true (c .before .before .before .before .before .before .before .mark-fans .result) (c .before .before .before .before .if2 .taken))))
 
 list-owners-requires : tie.Need-list-owners-requires
