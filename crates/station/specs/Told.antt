@@ -1,6 +1,6 @@
 -- What each exported function tells its caller of what was said: the number, and each value that came with it; 0 for a value
 -- that did not come.
-use mathlib.Core.Bool.{cond}
+use mathlib.Core.Bool.{Bool, cond}
 use mathlib.Core.List.{List, [], _∷_}
 use lib.Dec.{eqb}
 use Prim.Native.Nat.{ℕ, zero, suc}
@@ -17,6 +17,12 @@ use Rattle.station.specs.declared.TriAnswer.{TriAnswer}
 use Rattle.station.specs.declared.LengthAnswer.{LengthAnswer}
 use Rattle.station.specs.declared.RowAnswer.{RowAnswer}
 use Rattle.station.specs.declared.SplitAnswer.{SplitAnswer}
+use Rattle.station.specs.declared.OwnersAnswer.{OwnersAnswer}
+use Rattle.station.specs.declared.LoopAnswer.{LoopAnswer}
+use Rattle.owners.specs.declared.Eligible.{Eligible}
+use Rattle.owners.specs.declared.Eligible.the-variants as E
+use Rattle.owners.specs.Scan as owners
+use Rattle.loops.specs.FormLoop.{Left}
 use Rattle.splitting.specs.Split.{Outcome}
 
 abbrev pub counts-of : Used → Counts
@@ -25,6 +31,9 @@ counts-of u =
 
 abbrev pub vector-of : Point → Vec3
 vector-of p = record { x = p .x; y = p .y; z = p .z }
+
+abbrev pub eligible-of : Bool → Eligible
+eligible-of end-too = cond end-too E.StartAndEnd E.Start
 
 -- the value that came at a place
 abbrev pub value : List Value → ℕ → Value
@@ -78,3 +87,18 @@ split-refused number = record { number = number; row = 0; added = 0; steps = 0 }
 
 abbrev pub split-left : Outcome → SplitAnswer × List ℤ × List ℕ × List ℕ × List ℕ
 split-left o = (split-told (o .said), o .halfedges, o .positions, o .work, o .visit)
+
+abbrev pub owners-told : Said → OwnersAnswer
+owners-told s = record { number = s .number; count = counted (value (s .values) 0) }
+
+abbrev pub owners-left : owners.Outcome → OwnersAnswer × List ℕ × List ℕ
+owners-left o = (owners-told (o .said), o .work, o .list)
+
+abbrev pub loop-told : Said → LoopAnswer
+loop-told s = record { number = s .number; row = count-on 3 s 0; vertices = count-on 0 s 0 }
+
+abbrev pub loop-refused : ℕ → LoopAnswer
+loop-refused number = record { number = number; row = 0; vertices = 0 }
+
+abbrev pub loop-left : Left → LoopAnswer × List ℤ × List ℕ × List ℤ × List ℕ
+loop-left o = (loop-told (o .said), o .halfedges, o .positions, o .saved, o .held)

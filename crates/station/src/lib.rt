@@ -7,14 +7,17 @@ ghost use Rattle.soundness.specs.Check.{checkNet};
 ghost use Rattle.net.specs.Net.{net};
 ghost use Rattle.pairing.specs.Pairing.{pairUp};
 ghost use Rattle.splitting.specs.Split.{splitPinched};
-ghost use Rattle.station.specs.Told.{told, next-told, tri-told, length-told, row-told, and-left, split-left, split-refused, counts-of, vector-of};
-use floats::Length;
+ghost use Rattle.owners.specs.Scan.{orbitOwners};
+ghost use Rattle.walks.specs.UpdateVert.{updateVert};
+ghost use Rattle.triangles.specs.CollapseTri.{collapseTri};
+ghost use Rattle.folds.specs.RemoveIfFolded.{removeIfFolded};
+ghost use Rattle.loops.specs.FormLoop.{formLoop};
+ghost use Rattle.station.specs.Told.{told, next-told, tri-told, length-told, row-told, and-left, split-left, owners-left, loop-left, counts-of, vector-of, eligible-of};
+
+mod told;
+
 use floats::Vec3;
-use numbers::Next;
-use numbers::Tri;
-use pairing::PairUp;
-use soundness::Checked;
-use split::Split;
+use owners::Eligible;
 
 // How many rows of each array are in use, and how many numbers a property row has.
 #[repr(C)]
@@ -76,6 +79,21 @@ pub struct SplitAnswer {
     pub steps: usize,
 }
 
+// How many half-edges were listed.
+#[repr(C)]
+pub struct OwnersAnswer {
+    pub number: u32,
+    pub count: usize,
+}
+
+// How many vertices are in use afterwards.
+#[repr(C)]
+pub struct LoopAnswer {
+    pub number: u32,
+    pub row: usize,
+    pub vertices: usize,
+}
+
 fn counts_of(used: Used) -> net::Counts
     ensures { λ r. ⌜ r ≡ counts-of used ⌝ }
 {
@@ -99,34 +117,27 @@ fn vector_of(point: Point) -> Vec3
     }
 }
 
+fn eligible_of(end_too: bool) -> Eligible
+    ensures { λ r. ⌜ r ≡ eligible-of «end_too» ⌝ }
+{
+    if end_too {
+        return Eligible::StartAndEnd;
+    }
+    Eligible::Start
+}
+
 #[no_mangle]
 pub extern "C" fn spoonferret_next_halfedge(h: i32) -> NextAnswer
     ensures { λ r. ⌜ r ≡ next-told (nextAnswer h) ⌝ }
 {
-    match numbers::next_halfedge(h) {
-        Next::To(next) => NextAnswer { number: 0, next },
-        Next::Number => NextAnswer { number: 4, next: 0 },
-    }
+    told::of_next(numbers::next_halfedge(h))
 }
 
 #[no_mangle]
 pub extern "C" fn spoonferret_tri_of(h: i32) -> TriAnswer
     ensures { λ r. ⌜ r ≡ tri-told (triAnswer h) ⌝ }
 {
-    match numbers::tri_of(h) {
-        Tri::Of(first, second, third) => TriAnswer {
-            number: 0,
-            first,
-            second,
-            third,
-        },
-        Tri::Number => TriAnswer {
-            number: 4,
-            first: 0,
-            second: 0,
-            third: 0,
-        },
-    }
+    told::of_tri(numbers::tri_of(h))
 }
 
 #[no_mangle]
@@ -140,25 +151,14 @@ pub extern "C" fn spoonferret_short_test(
 ) -> LengthAnswer
     ensures { λ r. ⌜ r ≡ length-told (shortTest (vector-of from) (vector-of to) «end_vert» «first_new_vert» tol epsilon) ⌝ }
 {
-    match floats::short_test(
+    told::of_length(floats::short_test(
         vector_of(from),
         vector_of(to),
         end_vert,
         first_new_vert,
         tol,
         epsilon,
-    ) {
-        Length::Short => LengthAnswer {
-            number: 0,
-            squared_length: 0,
-            limit: 0,
-        },
-        Length::Long(squared_length, limit) => LengthAnswer {
-            number: 8,
-            squared_length: floats::bits_of(squared_length),
-            limit: floats::bits_of(limit),
-        },
-    }
+    ))
 }
 
 #[no_mangle]
@@ -172,21 +172,14 @@ pub extern "C" fn spoonferret_check_net(
 ) -> RowAnswer
     ensures { λ r. ⌜ r ≡ row-told (checkNet (counts-of used) (net (now (halfedges .entry)) (now (positions .entry)) (now (normals .entry)) (now (references .entry)) (now (properties .entry)))) ⌝ }
 {
-    match soundness::check_net(
+    told::of_check(soundness::check_net(
         counts_of(used),
         halfedges,
         positions,
         normals,
         references,
         properties,
-    ) {
-        Checked::Sound => RowAnswer { number: 0, row: 0 },
-        Checked::Shape => RowAnswer { number: 1, row: 0 },
-        Checked::Unsound(h) => RowAnswer {
-            number: 3,
-            row: h.number(),
-        },
-    }
+    ))
 }
 
 #[no_mangle]
@@ -202,7 +195,7 @@ pub extern "C" fn spoonferret_pair_up(
 ) -> Answer
     ensures { λ r. ⌜ (r, now (halfedges .exit)) ≡ and-left told (pairUp (counts-of used) (net (now (halfedges .entry)) (now (positions .entry)) (now (normals .entry)) (now (references .entry)) (now (properties .entry))) first second) ⌝ }
 {
-    match pairing::pair_up(
+    told::of_pair(pairing::pair_up(
         counts_of(used),
         halfedges,
         positions,
@@ -211,11 +204,138 @@ pub extern "C" fn spoonferret_pair_up(
         properties,
         first,
         second,
-    ) {
-        PairUp::Done => Answer { number: 0 },
-        PairUp::Shape => Answer { number: 1 },
-        PairUp::Number => Answer { number: 4 },
-    }
+    ))
+}
+
+#[no_mangle]
+pub extern "C" fn spoonferret_update_vert(
+    used: Used,
+    halfedges: &mut [i32],
+    positions: &[u64],
+    normals: &[u64],
+    references: &[i32],
+    properties: &[u64],
+    vertex: i32,
+    start: i32,
+    end: i32,
+) -> RowAnswer
+    ensures { λ r. ⌜ (r, now (halfedges .exit)) ≡ and-left row-told (updateVert (counts-of used) (net (now (halfedges .entry)) (now (positions .entry)) (now (normals .entry)) (now (references .entry)) (now (properties .entry))) vertex start end) ⌝ }
+{
+    told::of_update(walks::update_vert(
+        counts_of(used),
+        halfedges,
+        positions,
+        normals,
+        references,
+        properties,
+        vertex,
+        start,
+        end,
+    ))
+}
+
+#[no_mangle]
+pub extern "C" fn spoonferret_collapse_tri(
+    used: Used,
+    halfedges: &mut [i32],
+    positions: &[u64],
+    normals: &[u64],
+    references: &[i32],
+    properties: &[u64],
+    halfedge: i32,
+) -> RowAnswer
+    ensures { λ r. ⌜ (r, now (halfedges .exit)) ≡ and-left row-told (collapseTri (counts-of used) (net (now (halfedges .entry)) (now (positions .entry)) (now (normals .entry)) (now (references .entry)) (now (properties .entry))) halfedge) ⌝ }
+{
+    told::of_collapse(triangles::collapse_tri(
+        counts_of(used),
+        halfedges,
+        positions,
+        normals,
+        references,
+        properties,
+        halfedge,
+    ))
+}
+
+#[no_mangle]
+pub extern "C" fn spoonferret_remove_if_folded(
+    used: Used,
+    halfedges: &mut [i32],
+    positions: &mut [u64],
+    normals: &[u64],
+    references: &[i32],
+    properties: &[u64],
+    halfedge: i32,
+) -> RowAnswer
+    ensures { λ r. ⌜ (r, (now (halfedges .exit), now (positions .exit))) ≡ and-left row-told (removeIfFolded (counts-of used) (net (now (halfedges .entry)) (now (positions .entry)) (now (normals .entry)) (now (references .entry)) (now (properties .entry))) halfedge) ⌝ }
+{
+    told::of_remove(folds::remove_if_folded(
+        counts_of(used),
+        halfedges,
+        positions,
+        normals,
+        references,
+        properties,
+        halfedge,
+    ))
+}
+
+#[no_mangle]
+pub extern "C" fn spoonferret_form_loop(
+    used: Used,
+    halfedges: &mut [i32],
+    positions: &mut [u64],
+    normals: &[u64],
+    references: &[i32],
+    properties: &[u64],
+    spare_halfedges: &mut [i32],
+    spare_positions: &mut [u64],
+    first: i32,
+    second: i32,
+) -> LoopAnswer
+    ensures { λ r. ⌜ (r, now (halfedges .exit), now (positions .exit), now («spare_halfedges» .exit), now («spare_positions» .exit))
+        ≡ loop-left (formLoop (counts-of used) (net (now (halfedges .entry)) (now (positions .entry)) (now (normals .entry)) (now (references .entry)) (now (properties .entry))) (now («spare_halfedges» .entry)) (now («spare_positions» .entry)) first second) ⌝ }
+{
+    told::of_loop(loops::form_loop(
+        counts_of(used),
+        halfedges,
+        positions,
+        normals,
+        references,
+        properties,
+        spare_halfedges,
+        spare_positions,
+        first,
+        second,
+    ))
+}
+
+#[no_mangle]
+pub extern "C" fn spoonferret_orbit_owners(
+    used: Used,
+    halfedges: &[i32],
+    positions: &[u64],
+    normals: &[u64],
+    references: &[i32],
+    properties: &[u64],
+    work: &mut [u8],
+    list: &mut [u32],
+    end_too: bool,
+) -> OwnersAnswer
+    ensures { λ r. ⌜ (r, now (work .exit), now (list .exit))
+        ≡ owners-left (orbitOwners (eligible-of «end_too») (counts-of used) (net (now (halfedges .entry)) (now (positions .entry)) (now (normals .entry)) (now (references .entry)) (now (properties .entry))) (now (work .entry)) (now (list .entry))) ⌝ }
+{
+    told::of_owners(owners::orbit_owners(
+        counts_of(used),
+        halfedges,
+        positions,
+        normals,
+        references,
+        properties,
+        work,
+        list,
+        eligible_of(end_too),
+    ))
 }
 
 #[no_mangle]
@@ -232,7 +352,7 @@ pub extern "C" fn spoonferret_split_pinched_verts(
     ensures { λ r. ⌜ (r, now (halfedges .exit), now (positions .exit), now (work .exit), now (visit .exit))
         ≡ split-left (splitPinched (counts-of used) (net (now (halfedges .entry)) (now (positions .entry)) (now (normals .entry)) (now (references .entry)) (now (properties .entry))) (now (work .entry)) (now (visit .entry))) ⌝ }
 {
-    match split::split_pinched_verts(
+    told::of_split(split::split_pinched_verts(
         counts_of(used),
         halfedges,
         positions,
@@ -241,33 +361,5 @@ pub extern "C" fn spoonferret_split_pinched_verts(
         properties,
         work,
         visit,
-    ) {
-        Split::Done(added, steps) => SplitAnswer {
-            number: 0,
-            row: 0,
-            added,
-            steps,
-        },
-        Split::Shape => split_refused(1),
-        Split::ShortBuffer => split_refused(2),
-        Split::Unsound(h) => SplitAnswer {
-            number: 3,
-            row: h.number(),
-            added: 0,
-            steps: 0,
-        },
-        Split::OpenFan => split_refused(9),
-        Split::NoRoom => split_refused(6),
-    }
-}
-
-fn split_refused(number: u32) -> SplitAnswer
-    ensures { λ r. ⌜ r ≡ split-refused number ⌝ }
-{
-    SplitAnswer {
-        number,
-        row: 0,
-        added: 0,
-        steps: 0,
-    }
+    ))
 }
