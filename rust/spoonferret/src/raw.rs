@@ -55,6 +55,19 @@ pub struct SplitAnswer {
     pub steps: usize,
 }
 
+#[repr(C)]
+pub struct OwnersAnswer {
+    pub number: u32,
+    pub count: usize,
+}
+
+#[repr(C)]
+pub struct LoopAnswer {
+    pub number: u32,
+    pub row: usize,
+    pub vertices: usize,
+}
+
 extern "C" {
     pub fn spoonferret_next_halfedge(h: i32) -> NextAnswer;
 
@@ -98,6 +111,92 @@ extern "C" {
         first: i32,
         second: i32,
     ) -> Answer;
+
+    pub fn spoonferret_update_vert(
+        used: Used,
+        halfedges: *mut i32,
+        halfedges_length: usize,
+        positions: *const u64,
+        positions_length: usize,
+        normals: *const u64,
+        normals_length: usize,
+        references: *const i32,
+        references_length: usize,
+        properties: *const u64,
+        properties_length: usize,
+        vertex: i32,
+        start: i32,
+        end: i32,
+    ) -> RowAnswer;
+
+    pub fn spoonferret_collapse_tri(
+        used: Used,
+        halfedges: *mut i32,
+        halfedges_length: usize,
+        positions: *const u64,
+        positions_length: usize,
+        normals: *const u64,
+        normals_length: usize,
+        references: *const i32,
+        references_length: usize,
+        properties: *const u64,
+        properties_length: usize,
+        halfedge: i32,
+    ) -> RowAnswer;
+
+    pub fn spoonferret_remove_if_folded(
+        used: Used,
+        halfedges: *mut i32,
+        halfedges_length: usize,
+        positions: *mut u64,
+        positions_length: usize,
+        normals: *const u64,
+        normals_length: usize,
+        references: *const i32,
+        references_length: usize,
+        properties: *const u64,
+        properties_length: usize,
+        halfedge: i32,
+    ) -> RowAnswer;
+
+    pub fn spoonferret_form_loop(
+        used: Used,
+        halfedges: *mut i32,
+        halfedges_length: usize,
+        positions: *mut u64,
+        positions_length: usize,
+        normals: *const u64,
+        normals_length: usize,
+        references: *const i32,
+        references_length: usize,
+        properties: *const u64,
+        properties_length: usize,
+        spare_halfedges: *mut i32,
+        spare_halfedges_length: usize,
+        spare_positions: *mut u64,
+        spare_positions_length: usize,
+        first: i32,
+        second: i32,
+    ) -> LoopAnswer;
+
+    pub fn spoonferret_orbit_owners(
+        used: Used,
+        halfedges: *const i32,
+        halfedges_length: usize,
+        positions: *const u64,
+        positions_length: usize,
+        normals: *const u64,
+        normals_length: usize,
+        references: *const i32,
+        references_length: usize,
+        properties: *const u64,
+        properties_length: usize,
+        work: *mut u8,
+        work_length: usize,
+        list: *mut u32,
+        list_length: usize,
+        end_too: bool,
+    ) -> OwnersAnswer;
 
     pub fn spoonferret_split_pinched_verts(
         used: Used,
