@@ -18,11 +18,12 @@
    WHAT A CALL SAYS. Each function answers a struct whose field `number` is
      0 done            1 shape           2 short buffer     3 unsound          4 number           5 dead
      6 no room         7 stopped         8 long             9 open fan        10 no owners
-   and each says below which of these it gives, tested in this order. A field that the answer does not carry is 0. After any answer
-   but 0 the rows in use of all five arrays are as they were. */
+   and each says below which of these it gives, tested in the order in which they stand there. A field that the answer does not carry
+   is 0. After any answer but 0 the rows in use of all five arrays are as they were. */
 #ifndef SPOONFERRET_H
 #define SPOONFERRET_H
 
+#include <stdbool.h>
 #include <stddef.h>
 #include <stdint.h>
 
@@ -85,6 +86,19 @@ typedef struct {
     size_t steps;
 } spoonferret_split_answer;
 
+/* vertices: vertex rows in use afterwards; row: the least row not in order. */
+typedef struct {
+    uint32_t number;
+    size_t row;
+    size_t vertices;
+} spoonferret_loop_answer;
+
+/* count: half-edges listed. */
+typedef struct {
+    uint32_t number;
+    size_t count;
+} spoonferret_owners_answer;
+
 /* The next half-edge of h's triangle: h + 1, or h - 2 where h + 1 divides by 3. Negative numbers too: next of -1 is -3.
    0: next holds it. 4: h is 2147483647 or -2147483647, which have none. */
 spoonferret_next_answer spoonferret_next_halfedge(int32_t h);
@@ -115,6 +129,66 @@ spoonferret_answer spoonferret_pair_up(spoonferret_used used, int32_t *halfedges
                                        const uint64_t *positions, size_t positions_length, const uint64_t *normals,
                                        size_t normals_length, const int32_t *references, size_t references_length,
                                        const uint64_t *properties, size_t properties_length, int32_t first, int32_t second);
+
+/* Walks about a vertex from half-edge start to half-edge end: the end of the half-edge where it is becomes vertex, and the start of that one's
+   next; then it goes to that next's partner. At end it stops: end is not written, and start equal to end writes nothing. Only start_vert
+   and end_vert of rows on the way are written; the net is as a rule not sound afterwards, which the caller mends.
+   0: done. 1: shape. 3: not sound; row. 4: vertex is not in 0..used.vertices, or start or end not in 0..used.halfedges. 5: start or end is
+   dead. 7: the walk does not come to end. */
+spoonferret_row_answer spoonferret_update_vert(spoonferret_used used, int32_t *halfedges, size_t halfedges_length,
+                                               const uint64_t *positions, size_t positions_length, const uint64_t *normals,
+                                               size_t normals_length, const int32_t *references, size_t references_length,
+                                               const uint64_t *properties, size_t properties_length, int32_t vertex,
+                                               int32_t start, int32_t end);
+
+/* Takes the triangle of halfedge out. Its rows in order are halfedge, the next and the next of that: the partners of the second and the third
+   become each other's; then start_vert, end_vert and paired_halfedge of the three rows become -1, and prop_vert stays. The partner of
+   halfedge itself still points to it, which the caller mends.
+   0: done. 1: shape. 3: not sound; row. 4: halfedge is not in 0..used.halfedges. 5: it is dead. */
+spoonferret_row_answer spoonferret_collapse_tri(spoonferret_used used, int32_t *halfedges, size_t halfedges_length,
+                                                const uint64_t *positions, size_t positions_length, const uint64_t *normals,
+                                                size_t normals_length, const int32_t *references, size_t references_length,
+                                                const uint64_t *properties, size_t properties_length, int32_t halfedge);
+
+/* Takes out the two triangles at the edge of halfedge where they are folded: they have the same opposite vertex and meet at a second edge, the
+   first's second row paired with the other's third or its third with the other's second. What lies beside them is joined, all four
+   fields of the six rows become -1, and a vertex that nothing is left of gets the bits 0x7FF8000000000000 (NaN) for x, y and z: of both,
+   the first triangle's three starts; else the vertex where the two edges meet. Where they are not folded nothing changes, and the answer is 0.
+   0: done, or not folded. 1: shape. 3: not sound; row. 4: halfedge is not in 0..used.halfedges. 5: it is dead. */
+spoonferret_row_answer spoonferret_remove_if_folded(spoonferret_used used, int32_t *halfedges, size_t halfedges_length,
+                                                    uint64_t *positions, size_t positions_length, const uint64_t *normals,
+                                                    size_t normals_length, const int32_t *references, size_t references_length,
+                                                    const uint64_t *properties, size_t properties_length, int32_t halfedge);
+
+/* Joins the net the other way across two half-edges that run between the same two vertices: appends copies of the positions where first
+   starts and ends; does update_vert with the first copy from first's partner to second's partner, and with the other from second to
+   first; exchanges the two pairs; and does remove_if_folded at second. The same half-edge twice appends two positions and does
+   remove_if_folded.
+   spare_halfedges needs 4 * used.halfedges elements, spare_positions 3 * used.vertices.
+   0: done; vertices is used.vertices + 2. 1: shape. 2: a spare is too short. 3: not sound; row. 4: first or second is not in
+   0..used.halfedges. 5: one of them is dead. 6: positions has no two free rows. 7: a walk does not come to its end.
+   After 6 and 7 the free rows that had been filled read zero, the others are as they were. After 0, 6 and 7 the spares hold the rows in use as
+   they were at the call, over the needed lengths, and are unchanged beyond; after 1 to 5 the spares are as they were. */
+spoonferret_loop_answer spoonferret_form_loop(spoonferret_used used, int32_t *halfedges, size_t halfedges_length,
+                                              uint64_t *positions, size_t positions_length, const uint64_t *normals,
+                                              size_t normals_length, const int32_t *references, size_t references_length,
+                                              const uint64_t *properties, size_t properties_length, int32_t *spare_halfedges,
+                                              size_t spare_halfedges_length, uint64_t *spare_positions,
+                                              size_t spare_positions_length, int32_t first, int32_t second);
+
+/* The owner of each fan. A fan is what is reached from a half-edge by turning, to the next of its partner. A half-edge is eligible if its
+   start is 0 or more, and with end_too its end as well; a fan's owner is the least of its eligible half-edges. Reads the net, which need
+   not be sound, in time linear in used.halfedges.
+   work and list need used.halfedges elements each.
+   0: list's first count elements are the owners, rising; the rest of list is as it was. 1: shape. 2: work or list is too short. 10: a pair of 0
+   or more is not in 0..used.halfedges or does not point back, or some eligible half-edge, after no or more turns, is at a row without pair;
+   list is as it was.
+   After 0 and 10 work reads zero over the needed length and is unchanged beyond; after 1 and 2 work and list are as they were. */
+spoonferret_owners_answer spoonferret_orbit_owners(spoonferret_used used, const int32_t *halfedges, size_t halfedges_length,
+                                                   const uint64_t *positions, size_t positions_length, const uint64_t *normals,
+                                                   size_t normals_length, const int32_t *references, size_t references_length,
+                                                   const uint64_t *properties, size_t properties_length, uint8_t *work,
+                                                   size_t work_length, uint32_t *list, size_t list_length, bool end_too);
 
 /* Gives each fan a start vertex of its own. Rising over half-edges, the first fan at a vertex keeps it; each later fan gets a copy of
    the position, appended behind the used.vertices rows, and its number on every start in the fan and on the end of every partner.

@@ -48,44 +48,240 @@ static void short_or_long(void) {
     EXPECT(spoonferret_short_test(from, to, 2, 2, 5, 6).number == 0);
 }
 
-static spoonferret_row_answer check(spoonferret_used used, const int32_t *halfedges) {
-    /* an array of no elements still has a place */
-    static const uint64_t no_numbers[1];
-    static const int32_t no_rows[1];
-    uint64_t positions[15];
-    memcpy(positions, points, sizeof positions);
-    return spoonferret_check_net(used, halfedges, 48, positions, 15, no_numbers, 0, no_rows, 0, no_numbers, 0);
-}
+/* an array of no elements still has a place */
+static const uint64_t no_numbers[1];
+static const int32_t no_rows[1];
+
+/* the counts, the five arrays; rows and positions are written by what follows */
+#define NET used, rows, 4 * lent_rows, positions, 3 * lent_positions, no_numbers, 0, no_rows, 0, no_numbers, 0
 
 static void nets(void) {
-    static const uint64_t no_numbers[1];
-    static const int32_t no_rows[1];
     spoonferret_used used = {.halfedges = 12, .vertices = 5};
+    size_t lent_rows = 12, lent_positions = 5;
     int32_t rows[48];
+    uint64_t positions[15];
     memcpy(rows, example, sizeof rows);
-    EXPECT(check(used, rows).number == 0);
+    memcpy(positions, points, sizeof positions);
+    EXPECT(spoonferret_check_net(NET).number == 0);
     used.vertices = 6;
-    EXPECT(check(used, rows).number == 1);
+    EXPECT(spoonferret_check_net(NET).number == 1);
     used.vertices = 4;
-    spoonferret_row_answer unsound = check(used, rows);
+    spoonferret_row_answer unsound = spoonferret_check_net(NET);
     EXPECT(unsound.number == 3 && unsound.row == 7);
     used.vertices = 5;
 
-    uint64_t positions[15];
-    memcpy(positions, points, sizeof positions);
-    EXPECT(spoonferret_pair_up(used, rows, 48, positions, 15, no_numbers, 0, no_rows, 0, no_numbers, 0, 0, 12).number == 4);
+    EXPECT(spoonferret_pair_up(NET, 0, 12).number == 4);
     EXPECT(memcmp(rows, example, sizeof rows) == 0);
-    EXPECT(spoonferret_pair_up(used, rows, 48, positions, 15, no_numbers, 0, no_rows, 0, no_numbers, 0, 0, 7).number == 0);
+    EXPECT(spoonferret_pair_up(NET, 0, 7).number == 0);
     EXPECT(rows[2] == 7 && rows[30] == 0);
     rows[2] = 3;
     rows[30] = 11;
     EXPECT(memcmp(rows, example, sizeof rows) == 0);
 }
 
+#define NAN_BITS UINT64_C(0x7FF8000000000000)
+
+static int all(const uint64_t *values, size_t count, uint64_t wanted) {
+    for (size_t i = 0; i < count; i++) {
+        if (values[i] != wanted) {
+            return 0;
+        }
+    }
+    return 1;
+}
+
+/* P: the first six rows of the example, here with a fourth vertex that is loose, and a triangle that is dead */
+static void fresh(int32_t *rows, uint64_t *positions) {
+    static const int32_t dead[12] = {-1, -1, -1, 5, -1, -1, -1, 6, -1, -1, -1, 7};
+    memcpy(rows, example, 24 * sizeof *rows);
+    memcpy(rows + 24, dead, sizeof dead);
+    memcpy(positions, points, 12 * sizeof *positions);
+}
+
+static void surgery(void) {
+    spoonferret_used used = {.halfedges = 9, .vertices = 4};
+    size_t lent_rows = 9, lent_positions = 4;
+    int32_t rows[36], before[36];
+    uint64_t positions[12], positions_before[12];
+    fresh(before, positions_before);
+    fresh(rows, positions);
+
+    /* from 0 to 1 the walk goes round between 0 and 5; from 0 to 0 it does nothing */
+    EXPECT(spoonferret_update_vert(NET, 3, 0, 1).number == 7);
+    EXPECT(spoonferret_update_vert(NET, 3, 0, 0).number == 0);
+    EXPECT(spoonferret_update_vert(NET, 4, 0, 5).number == 4);
+    EXPECT(spoonferret_update_vert(NET, 3, 9, 5).number == 4);
+    EXPECT(spoonferret_update_vert(NET, 3, 0, 6).number == 5);
+    EXPECT(memcmp(rows, before, sizeof rows) == 0);
+    EXPECT(spoonferret_update_vert(NET, 3, 0, 5).number == 0);
+    EXPECT(rows[1] == 3 && rows[4] == 3);
+    rows[1] = 1;
+    rows[4] = 1;
+    EXPECT(memcmp(rows, before, sizeof rows) == 0);
+    used.halfedges = 8;
+    EXPECT(spoonferret_update_vert(NET, 3, 0, 5).number == 1);
+    used.halfedges = 9;
+    rows[1] = 2;
+    spoonferret_row_answer unsound = spoonferret_update_vert(NET, 3, 0, 5);
+    EXPECT(unsound.number == 3 && unsound.row == 0);
+
+    /* the second and third rows from 0 have partners 5 and 4 */
+    fresh(rows, positions);
+    EXPECT(spoonferret_collapse_tri(NET, -1).number == 4 && spoonferret_collapse_tri(NET, 9).number == 4);
+    EXPECT(spoonferret_collapse_tri(NET, 8).number == 5);
+    EXPECT(memcmp(rows, before, sizeof rows) == 0);
+    rows[3] = 8;
+    EXPECT(spoonferret_collapse_tri(NET, 0).number == 0);
+    static const int32_t emptied[12] = {-1, -1, -1, 8, -1, -1, -1, -1, -1, -1, -1, -1};
+    EXPECT(memcmp(rows, emptied, sizeof emptied) == 0);
+    EXPECT(rows[4 * 5 + 2] == 4 && rows[4 * 4 + 2] == 5 && rows[4 * 3 + 2] == 0);
+    EXPECT(memcmp(rows + 24, before + 24, 12 * sizeof *rows) == 0);
+
+    /* P is folded at 0: all dead, props -1, three NaN positions; the rest as it was */
+    fresh(rows, positions);
+    rows[3] = 8;
+    EXPECT(spoonferret_remove_if_folded(NET, 9).number == 4 && spoonferret_remove_if_folded(NET, 6).number == 5);
+    EXPECT(spoonferret_remove_if_folded(NET, 0).number == 0);
+    static const int32_t gone[24] = {-1, -1, -1, -1, -1, -1, -1, -1, -1, -1, -1, -1, -1, -1, -1, -1, -1, -1, -1, -1, -1, -1, -1, -1};
+    EXPECT(memcmp(rows, gone, sizeof gone) == 0);
+    EXPECT(memcmp(rows + 24, before + 24, 12 * sizeof *rows) == 0);
+    EXPECT(all(positions, 9, NAN_BITS) && memcmp(positions + 9, positions_before + 9, 3 * sizeof *positions) == 0);
+}
+
+/* the edge from 0 to 1 is there twice, as half-edges 0 and 6 */
+static const int32_t twice[48] = {0, 1, 9, -1, 1, 2, 5,  -1, 2, 0, 4,  -1, 1, 0, 6, -1, 0, 2, 2, -1, 2, 1, 1, -1,
+                                  0, 1, 3, -1, 1, 3, 11, -1, 3, 0, 10, -1, 1, 0, 0, -1, 0, 3, 8, -1, 3, 1, 7, -1};
+
+static void loops(void) {
+    spoonferret_used used = {.halfedges = 12, .vertices = 4};
+    size_t lent_rows = 12, lent_positions = 7;
+    int32_t rows[48], spare_rows[50];
+    uint64_t positions[21], before[21], spare_positions[14];
+    memset(before, 0x55, sizeof before);
+    memcpy(before, points, 12 * sizeof *before);
+    memcpy(rows, twice, sizeof rows);
+    memcpy(positions, before, sizeof positions);
+    memset(spare_rows, 0x66, sizeof spare_rows);
+    memset(spare_positions, 0x66, sizeof spare_positions);
+    const uint64_t filled = UINT64_C(0x6666666666666666);
+
+    /* refused before the steps: nothing is written */
+    EXPECT(spoonferret_form_loop(NET, spare_rows, 47, spare_positions, 12, 0, 6).number == 2);
+    EXPECT(spoonferret_form_loop(NET, spare_rows, 48, spare_positions, 11, 0, 6).number == 2);
+    EXPECT(spoonferret_form_loop(NET, spare_rows, 50, spare_positions, 14, 0, 12).number == 4);
+    EXPECT(spare_rows[0] == 0x66666666 && all(spare_positions, 14, filled));
+    EXPECT(memcmp(positions, before, sizeof positions) == 0);
+
+    /* one free row, and none: the one that was filled reads zero */
+    lent_positions = 4;
+    EXPECT(spoonferret_form_loop(NET, spare_rows, 50, spare_positions, 14, 0, 6).number == 6);
+    EXPECT(memcmp(positions, before, sizeof positions) == 0);
+    lent_positions = 5;
+    EXPECT(spoonferret_form_loop(NET, spare_rows, 50, spare_positions, 14, 0, 6).number == 6);
+    EXPECT(memcmp(rows, twice, sizeof rows) == 0 && memcmp(positions, before, 12 * sizeof *positions) == 0);
+    EXPECT(all(positions + 12, 3, 0) && memcmp(positions + 15, before + 15, 6 * sizeof *positions) == 0);
+    lent_positions = 7;
+
+    /* the spares hold the rows as they were, and are unchanged beyond */
+    EXPECT(memcmp(spare_rows, twice, sizeof twice) == 0 && spare_rows[48] == 0x66666666 && spare_rows[49] == 0x66666666);
+    EXPECT(memcmp(spare_positions, before, 12 * sizeof *before) == 0 && all(spare_positions + 12, 2, filled));
+
+    /* a walk that does not come to its end: two rows were filled */
+    EXPECT(spoonferret_form_loop(NET, spare_rows, 50, spare_positions, 14, 0, 1).number == 7);
+    EXPECT(memcmp(rows, twice, sizeof rows) == 0 && all(positions + 12, 6, 0));
+    EXPECT(memcmp(positions + 18, before + 18, 3 * sizeof *positions) == 0);
+
+    /* done: the first's triangles stand by themselves, the second's were folded then, and vertices 3, 4, 5 are lost with them */
+    spoonferret_loop_answer done = spoonferret_form_loop(NET, spare_rows, 50, spare_positions, 14, 0, 6);
+    EXPECT(done.number == 0 && done.row == 0 && done.vertices == 6);
+    EXPECT(memcmp(rows, example, 24 * sizeof *rows) == 0);
+    for (int i = 24; i < 48; i++) {
+        EXPECT(rows[i] == -1);
+    }
+    EXPECT(memcmp(positions, before, 9 * sizeof *positions) == 0 && all(positions + 9, 9, NAN_BITS));
+    EXPECT(memcmp(positions + 18, before + 18, 3 * sizeof *positions) == 0);
+    EXPECT(spoonferret_form_loop(NET, spare_rows, 50, spare_positions, 14, 0, 6).number == 5);
+    rows[0] = 7;
+    spoonferret_loop_answer unsound = spoonferret_form_loop(NET, spare_rows, 50, spare_positions, 14, 0, 0);
+    EXPECT(unsound.number == 3 && unsound.row == 0 && unsound.vertices == 0);
+}
+
+static void owners(void) {
+    spoonferret_used used = {.halfedges = 12, .vertices = 5};
+    size_t lent_rows = 12, lent_positions = 5;
+    int32_t rows[48];
+    uint64_t positions[15];
+    uint8_t work[14];
+    uint32_t list[14];
+    memcpy(rows, example, sizeof rows);
+    memcpy(positions, points, sizeof positions);
+    memset(work, 7, sizeof work);
+    memset(list, 0x77, sizeof list);
+    EXPECT(spoonferret_orbit_owners(NET, work, 11, list, 14, false).number == 2);
+    EXPECT(spoonferret_orbit_owners(NET, work, 14, list, 11, false).number == 2);
+    EXPECT(work[0] == 7 && list[0] == 0x77777777);
+
+    /* six fans: three at each two-sided triangle */
+    spoonferret_owners_answer told = spoonferret_orbit_owners(NET, work, 14, list, 14, false);
+    static const uint32_t owed[6] = {0, 1, 2, 6, 7, 8};
+    EXPECT(told.number == 0 && told.count == 6 && memcmp(list, owed, sizeof owed) == 0 && list[6] == 0x77777777);
+    EXPECT(work[0] == 0 && work[11] == 0 && work[12] == 7 && work[13] == 7);
+
+    /* 0 is not eligible by its end; its fan has 4 besides */
+    rows[1] = -1;
+    told = spoonferret_orbit_owners(NET, work, 14, list, 14, true);
+    static const uint32_t without[6] = {1, 2, 4, 6, 7, 8};
+    EXPECT(told.number == 0 && told.count == 6 && memcmp(list, without, sizeof without) == 0);
+
+    rows[2] = -1;
+    memset(list, 0x77, sizeof list);
+    told = spoonferret_orbit_owners(NET, work, 14, list, 14, false);
+    EXPECT(told.number == 10 && told.count == 0 && list[0] == 0x77777777);
+}
+
+static void split(void) {
+    spoonferret_used used = {.halfedges = 12, .vertices = 5};
+    size_t lent_rows = 12, lent_positions = 5;
+    int32_t rows[48];
+    uint64_t positions[21];
+    uint32_t work[18], visit[13];
+    memcpy(rows, example, sizeof rows);
+    memset(positions, 0x55, sizeof positions);
+    memcpy(positions, points, sizeof points);
+    memset(work, 0x44, sizeof work);
+    memset(visit, 0x77, sizeof visit);
+    EXPECT(spoonferret_split_pinched_verts(NET, work, 16, visit, 13).number == 2);
+    EXPECT(spoonferret_split_pinched_verts(NET, work, 18, visit, 11).number == 2);
+    EXPECT(work[0] == 0x44444444);
+
+    /* capacity 5: no room for the copy */
+    EXPECT(spoonferret_split_pinched_verts(NET, work, 18, visit, 13).number == 6);
+    EXPECT(memcmp(rows, example, sizeof rows) == 0 && visit[0] == 0x77777777);
+    EXPECT(work[0] == 0 && work[16] == 0 && work[17] == 0x44444444);
+
+    /* capacity 6: rows 6 and 10 start at 5, rows 8 and 9 end at 5 */
+    lent_positions = 6;
+    spoonferret_split_answer told = spoonferret_split_pinched_verts(NET, work, 18, visit, 13);
+    EXPECT(told.number == 0 && told.row == 0 && told.added == 1 && told.steps == 12);
+    static const uint32_t visited[12] = {4, 0, 3, 1, 5, 2, 10, 6, 9, 7, 11, 8};
+    EXPECT(memcmp(visit, visited, sizeof visited) == 0 && visit[12] == 0x77777777);
+    EXPECT(rows[24] == 5 && rows[40] == 5 && rows[33] == 5 && rows[37] == 5);
+    rows[24] = rows[40] = rows[33] = rows[37] = 0;
+    EXPECT(memcmp(rows, example, sizeof rows) == 0);
+    EXPECT(memcmp(positions, points, sizeof points) == 0 && all(positions + 15, 3, 0) && positions[18] == UINT64_C(0x5555555555555555));
+    rows[2] = 4;
+    told = spoonferret_split_pinched_verts(NET, work, 18, visit, 13);
+    EXPECT(told.number == 3 && told.row == 0 && told.added == 0 && told.steps == 0);
+}
+
 int main(void) {
     next_and_tri();
     short_or_long();
     nets();
+    surgery();
+    loops();
+    owners();
+    split();
     printf("%d passed, %d failed\n", passed, failed);
     return failed != 0;
 }

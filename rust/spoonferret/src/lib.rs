@@ -27,7 +27,7 @@ pub mod raw;
 mod refusal;
 mod rows;
 
-pub use net::Net;
+pub use net::{Eligible, Net};
 pub use refusal::Refusal;
 pub use rows::{Halfedge, Reference, Vec3};
 

@@ -15,6 +15,37 @@ pub struct Net {
     pub num_prop: usize,
 }
 
+/// Which half-edges the owner scan looks at.
+#[derive(Clone, Copy, Debug, PartialEq, Eq)]
+pub enum Eligible {
+    /// those whose start is 0 or more
+    Start,
+    /// those whose start and end are both 0 or more
+    StartAndEnd,
+}
+
+/// A call of the static library: the counts, the five arrays, the half-edges and positions lent by the methods named, and what else it takes.
+macro_rules! call {
+    ($entry:ident, $used:expr, $net:ident, $halfedges:ident, $positions:ident $(, $more:expr)*) => {
+        unsafe {
+            raw::$entry(
+                $used,
+                $net.halfedges.$halfedges().cast(),
+                $net.halfedges.len() * 4,
+                $net.positions.$positions().cast(),
+                $net.positions.len() * 3,
+                $net.normals.as_ptr().cast(),
+                $net.normals.len() * 3,
+                $net.references.as_ptr().cast(),
+                $net.references.len() * 3,
+                $net.properties.as_ptr().cast(),
+                $net.properties.len(),
+                $($more),*
+            )
+        }
+    };
+}
+
 impl Net {
     fn used(&self) -> Used {
         Used {
@@ -27,23 +58,9 @@ impl Net {
         }
     }
 
-    /// Whether the net is sound: what every operation on it asks for first.
+    /// Whether the net is sound: what every operation on it asks for first, but for `pair_up` and `orbit_owners`.
     pub fn check(&self) -> Result<(), Refusal> {
-        let told = unsafe {
-            raw::spoonferret_check_net(
-                self.used(),
-                self.halfedges.as_ptr().cast(),
-                self.halfedges.len() * 4,
-                self.positions.as_ptr().cast(),
-                self.positions.len() * 3,
-                self.normals.as_ptr().cast(),
-                self.normals.len() * 3,
-                self.references.as_ptr().cast(),
-                self.references.len() * 3,
-                self.properties.as_ptr().cast(),
-                self.properties.len(),
-            )
-        };
+        let told = call!(spoonferret_check_net, self.used(), self, as_ptr, as_ptr);
         Refusal::unless_sound_and_done(told.number, told.row, ())
     }
 
@@ -57,24 +74,154 @@ impl Net {
     /// assert_eq!(net.pair_up(0, 3), Err(Refusal::Number));
     /// ```
     pub fn pair_up(&mut self, first: i32, second: i32) -> Result<(), Refusal> {
-        let told = unsafe {
-            raw::spoonferret_pair_up(
-                self.used(),
-                self.halfedges.as_mut_ptr().cast(),
-                self.halfedges.len() * 4,
-                self.positions.as_ptr().cast(),
-                self.positions.len() * 3,
-                self.normals.as_ptr().cast(),
-                self.normals.len() * 3,
-                self.references.as_ptr().cast(),
-                self.references.len() * 3,
-                self.properties.as_ptr().cast(),
-                self.properties.len(),
-                first,
-                second,
-            )
-        };
+        let told = call!(spoonferret_pair_up, self.used(), self, as_mut_ptr, as_ptr, first, second);
         Refusal::unless_done(told.number, ())
+    }
+
+    /// Walks about a vertex from `start` to `end` and sets `vertex` on the way: on the end of each half-edge and the start of its next,
+    /// before it goes to that next's partner. `end` itself is not written, and `start` equal to `end` does nothing. Refused by `Stopped`
+    /// where the walk does not come to `end`. The net is as a rule not sound afterwards: this is a step of larger surgery.
+    ///
+    /// ```
+    /// use spoonferret::{Halfedge, Net, Refusal, Vec3};
+    /// // two triangles back to back, and a loose vertex 3
+    /// let rows = [[0, 1, 3], [1, 2, 5], [2, 0, 4], [1, 0, 0], [0, 2, 2], [2, 1, 1]];
+    /// let mut net = Net {
+    ///     halfedges: rows.iter().map(|r| Halfedge::new(r[0], r[1], r[2], -1)).collect(),
+    ///     positions: vec![Vec3::default(); 4],
+    ///     ..Net::default()
+    /// };
+    /// // half-edges 0 and 5 end at vertex 1
+    /// assert_eq!(net.update_vert(3, 0, 1), Err(Refusal::Stopped));
+    /// assert_eq!(net.update_vert(3, 0, 5), Ok(()));
+    /// assert_eq!((net.halfedges[0].end_vert, net.halfedges[1].start_vert, net.halfedges[5].end_vert), (3, 3, 1));
+    /// ```
+    pub fn update_vert(&mut self, vertex: i32, start: i32, end: i32) -> Result<(), Refusal> {
+        let told = call!(spoonferret_update_vert, self.used(), self, as_mut_ptr, as_ptr, vertex, start, end);
+        Refusal::unless_sound_and_done(told.number, told.row, ())
+    }
+
+    /// Takes a half-edge's triangle out: the partners of its second and third rows, counted from the half-edge, become each other's, and
+    /// its three rows are emptied and keep their `prop_vert`. The half-edge's own partner still points to it: this is a step of larger surgery.
+    ///
+    /// ```
+    /// use spoonferret::{Halfedge, Net, Refusal, Vec3};
+    /// // two triangles back to back
+    /// let rows = [[0, 1, 3], [1, 2, 5], [2, 0, 4], [1, 0, 0], [0, 2, 2], [2, 1, 1]];
+    /// let mut net = Net {
+    ///     halfedges: rows.iter().map(|r| Halfedge::new(r[0], r[1], r[2], 7)).collect(),
+    ///     positions: vec![Vec3::default(); 3],
+    ///     ..Net::default()
+    /// };
+    /// assert_eq!(net.collapse_tri(6), Err(Refusal::Number));
+    /// assert_eq!(net.collapse_tri(0), Ok(()));
+    /// assert_eq!((net.halfedges[5].paired_halfedge, net.halfedges[4].paired_halfedge), (4, 5));
+    /// assert_eq!(net.halfedges[..3], [Halfedge::new(-1, -1, -1, 7); 3]);
+    /// ```
+    pub fn collapse_tri(&mut self, halfedge: i32) -> Result<(), Refusal> {
+        let told = call!(spoonferret_collapse_tri, self.used(), self, as_mut_ptr, as_ptr, halfedge);
+        Refusal::unless_sound_and_done(told.number, told.row, ())
+    }
+
+    /// Takes out the two triangles at an edge where they lie on one another: they have the same opposite vertex, and a second edge in
+    /// common. Their six rows are emptied, `prop_vert` too, what lay beside them is joined, and a vertex that nothing is left of gets NaN for
+    /// its position. Where they are not folded so, nothing changes and it is done all the same.
+    ///
+    /// ```
+    /// use spoonferret::{Halfedge, Net, Vec3};
+    /// // two triangles back to back: nothing is left of them
+    /// let rows = [[0, 1, 3], [1, 2, 5], [2, 0, 4], [1, 0, 0], [0, 2, 2], [2, 1, 1]];
+    /// let mut net = Net {
+    ///     halfedges: rows.iter().map(|r| Halfedge::new(r[0], r[1], r[2], 7)).collect(),
+    ///     positions: vec![Vec3::default(); 3],
+    ///     ..Net::default()
+    /// };
+    /// assert_eq!(net.remove_if_folded(0), Ok(()));
+    /// assert_eq!(net.halfedges, [Halfedge::new(-1, -1, -1, -1); 6]);
+    /// assert!(net.positions.iter().all(|p| p.x.is_nan() && p.y.is_nan() && p.z.is_nan()));
+    /// ```
+    pub fn remove_if_folded(&mut self, halfedge: i32) -> Result<(), Refusal> {
+        let told = call!(spoonferret_remove_if_folded, self.used(), self, as_mut_ptr, as_mut_ptr, halfedge);
+        Refusal::unless_sound_and_done(told.number, told.row, ())
+    }
+
+    /// Joins the net the other way across two half-edges that run between the same two vertices: the positions of the first's start and end
+    /// are appended, the copies are set on one side, the two pairs are exchanged, and `remove_if_folded` is done at the second. Refused by
+    /// `Stopped` where a walk from one to the other does not come there, and by `NoRoom` at the bound of 1,000,000 vertices.
+    ///
+    /// ```
+    /// use spoonferret::{Halfedge, Net, Vec3};
+    /// // the edge from 0 to 1 is there twice: half-edges 0 and 6
+    /// let rows = [
+    ///     [0, 1, 9], [1, 2, 5], [2, 0, 4], [1, 0, 6], [0, 2, 2], [2, 1, 1],
+    ///     [0, 1, 3], [1, 3, 11], [3, 0, 10], [1, 0, 0], [0, 3, 8], [3, 1, 7],
+    /// ];
+    /// let mut net = Net {
+    ///     halfedges: rows.iter().map(|r| Halfedge::new(r[0], r[1], r[2], -1)).collect(),
+    ///     positions: (0..4).map(|i| Vec3::new(i as f64, 0.0, 0.0)).collect(),
+    ///     ..Net::default()
+    /// };
+    /// assert_eq!(net.form_loop(0, 6), Ok(()));
+    /// assert_eq!(net.positions.len(), 6);
+    /// // the first's triangles stand by themselves; the second's lay on one another then, and are gone with the copies
+    /// assert_eq!((net.halfedges[0].paired_halfedge, net.halfedges[3].paired_halfedge), (3, 0));
+    /// assert_eq!(net.halfedges[6..], [Halfedge::new(-1, -1, -1, -1); 6]);
+    /// assert!(net.positions[4].x.is_nan() && net.positions[5].x.is_nan());
+    /// assert_eq!(net.check(), Ok(()));
+    /// ```
+    pub fn form_loop(&mut self, first: i32, second: i32) -> Result<(), Refusal> {
+        let used = self.used();
+        let mut spare_halfedges = vec![0i32; used.halfedges * 4];
+        let mut spare_positions = vec![0u64; used.vertices * 3];
+        self.positions.resize(used.vertices + 2, Vec3::default());
+        let told = call!(
+            spoonferret_form_loop,
+            used,
+            self,
+            as_mut_ptr,
+            as_mut_ptr,
+            spare_halfedges.as_mut_ptr(),
+            spare_halfedges.len(),
+            spare_positions.as_mut_ptr(),
+            spare_positions.len(),
+            first,
+            second
+        );
+        self.positions.truncate(if told.number == 0 { told.vertices } else { used.vertices });
+        Refusal::unless_sound_and_done(told.number, told.row, ())
+    }
+
+    /// The owner of each fan, rising: the least of its half-edges that are eligible, where it has one. The net need not be sound; refused by
+    /// `NoOwners` where a pair of 0 or more does not point back, or an eligible half-edge's fan comes to a row without pair.
+    ///
+    /// ```
+    /// use spoonferret::{Eligible, Halfedge, Net, Refusal};
+    /// // two triangles back to back: a fan at each of three vertices
+    /// let rows = [[0, 1, 3], [1, 2, 5], [2, 0, 4], [1, 0, 0], [0, 2, 2], [2, 1, 1]];
+    /// let mut net = Net { halfedges: rows.iter().map(|r| Halfedge::new(r[0], r[1], r[2], -1)).collect(), ..Net::default() };
+    /// assert_eq!(net.orbit_owners(Eligible::Start), Ok(vec![0, 1, 2]));
+    /// net.halfedges[0].end_vert = -1;
+    /// assert_eq!(net.orbit_owners(Eligible::StartAndEnd), Ok(vec![1, 2, 4]));
+    /// net.halfedges[0].paired_halfedge = -1;
+    /// assert_eq!(net.orbit_owners(Eligible::Start), Err(Refusal::NoOwners));
+    /// ```
+    pub fn orbit_owners(&self, eligible: Eligible) -> Result<Vec<u32>, Refusal> {
+        let mut work = vec![0u8; self.halfedges.len()];
+        let mut list = vec![0u32; self.halfedges.len()];
+        let told = call!(
+            spoonferret_orbit_owners,
+            self.used(),
+            self,
+            as_ptr,
+            as_ptr,
+            work.as_mut_ptr(),
+            work.len(),
+            list.as_mut_ptr(),
+            list.len(),
+            eligible == Eligible::StartAndEnd
+        );
+        list.truncate(told.count);
+        Refusal::unless_done(told.number, list)
     }
 
     /// Gives each fan a start vertex of its own: the first at a vertex keeps it, each later one gets a copy of the position behind the others.
@@ -82,46 +229,53 @@ impl Net {
     ///
     /// ```
     /// use spoonferret::{Halfedge, Net, Vec3};
-    /// // two two-sided triangles that meet at vertex 0
-    /// let rows = [
-    ///     [0, 1, 3], [1, 2, 5], [2, 0, 4], [1, 0, 0], [0, 2, 2], [2, 1, 1],
-    ///     [0, 3, 9], [3, 4, 11], [4, 0, 10], [3, 0, 6], [0, 4, 8], [4, 3, 7],
-    /// ];
-    /// let mut net = Net {
-    ///     halfedges: rows.iter().map(|r| Halfedge::new(r[0], r[1], r[2], -1)).collect(),
-    ///     positions: (0..5).map(|i| Vec3::new(i as f64, 0.0, 0.0)).collect(),
-    ///     ..Net::default()
-    /// };
-    /// assert_eq!(net.split_pinched_verts(), Ok(vec![4, 0, 3, 1, 5, 2, 10, 6, 9, 7, 11, 8]));
+    /// // document 01's example: two two-sided triangles that meet at vertex 0
+    /// let file = "form=1\nverts=5\ntris=4
+    /// p=0000000000000000,0000000000000000,0000000000000000
+    /// p=3ff0000000000000,0000000000000000,0000000000000000
+    /// p=0000000000000000,3ff0000000000000,0000000000000000
+    /// p=bff0000000000000,0000000000000000,0000000000000000
+    /// p=0000000000000000,4000000000000000,0000000000000000
+    /// h=0,1,3,-1\nh=1,2,5,-1\nh=2,0,4,-1\nh=1,0,0,-1\nh=0,2,2,-1\nh=2,1,1,-1
+    /// h=0,3,9,-1\nh=3,4,11,-1\nh=4,0,10,-1\nh=3,0,6,-1\nh=0,4,8,-1\nh=4,3,7,-1";
+    /// let mut net = Net::default();
+    /// for line in file.lines() {
+    ///     if let Some(p) = line.strip_prefix("p=") {
+    ///         let at: Vec<f64> = p.split(',').map(|x| f64::from_bits(u64::from_str_radix(x, 16).unwrap())).collect();
+    ///         net.positions.push(Vec3::new(at[0], at[1], at[2]));
+    ///     }
+    ///     if let Some(h) = line.strip_prefix("h=") {
+    ///         let row: Vec<i32> = h.split(',').map(|x| x.parse().unwrap()).collect();
+    ///         net.halfedges.push(Halfedge::new(row[0], row[1], row[2], row[3]));
+    ///     }
+    /// }
+    ///
+    /// let visited = net.split_pinched_verts()?;
+    /// assert_eq!(visited, [4, 0, 3, 1, 5, 2, 10, 6, 9, 7, 11, 8]);
+    /// // one vertex more, where vertex 0 is; rows 6 and 10 start there, rows 8 and 9 end there
     /// assert_eq!(net.positions.len(), 6);
     /// assert_eq!(net.positions[5], net.positions[0]);
-    /// assert_eq!((net.halfedges[6].start_vert, net.halfedges[8].end_vert), (5, 5));
+    /// assert_eq!((net.halfedges[6].start_vert, net.halfedges[10].start_vert), (5, 5));
+    /// assert_eq!((net.halfedges[8].end_vert, net.halfedges[9].end_vert), (5, 5));
+    /// # Ok::<(), spoonferret::Refusal>(())
     /// ```
     pub fn split_pinched_verts(&mut self) -> Result<Vec<u32>, Refusal> {
         let used = self.used();
-        // a fan has two half-edges or more, so copies are at most half of them
-        self.positions.resize(used.vertices + used.halfedges / 2, Vec3::default());
         let mut work = vec![0u32; used.halfedges + used.vertices];
         let mut visit = vec![0u32; used.halfedges];
-        let told = unsafe {
-            raw::spoonferret_split_pinched_verts(
-                used,
-                self.halfedges.as_mut_ptr().cast(),
-                self.halfedges.len() * 4,
-                self.positions.as_mut_ptr().cast(),
-                self.positions.len() * 3,
-                self.normals.as_ptr().cast(),
-                self.normals.len() * 3,
-                self.references.as_ptr().cast(),
-                self.references.len() * 3,
-                self.properties.as_ptr().cast(),
-                self.properties.len(),
-                work.as_mut_ptr(),
-                work.len(),
-                visit.as_mut_ptr(),
-                visit.len(),
-            )
-        };
+        // a fan has two half-edges or more, so copies are at most half of them
+        self.positions.resize(used.vertices + used.halfedges / 2, Vec3::default());
+        let told = call!(
+            spoonferret_split_pinched_verts,
+            used,
+            self,
+            as_mut_ptr,
+            as_mut_ptr,
+            work.as_mut_ptr(),
+            work.len(),
+            visit.as_mut_ptr(),
+            visit.len()
+        );
         self.positions.truncate(used.vertices + told.added);
         visit.truncate(told.steps);
         Refusal::unless_sound_and_done(told.number, told.row, visit)

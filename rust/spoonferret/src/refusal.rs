@@ -69,7 +69,7 @@ impl fmt::Display for Refusal {
             ),
             Refusal::ShortBuffer => write!(f, "short buffer (2): a work buffer, list or spare is too short"),
             Refusal::Unsound { row } => write!(f, "unsound (3): row {row} is the least row that is not in order"),
-            Refusal::Number => write!(f, "number (4): a number that names no half-edge or vertex, or has no next"),
+            Refusal::Number => write!(f, "number (4): a number that names no half-edge in use or no vertex in use, or that has no next"),
             Refusal::Dead => write!(f, "dead (5): a named half-edge is dead"),
             Refusal::NoRoom => write!(f, "no room (6): the next append would pass a capacity"),
             Refusal::Stopped => {
@@ -78,8 +78,12 @@ impl fmt::Display for Refusal {
             Refusal::Long { squared_length, limit } => {
                 write!(f, "long (8): the squared length {squared_length} is not below the limit {limit}")
             }
-            Refusal::OpenFan => write!(f, "open fan (9): a fan does not close"),
-            Refusal::NoOwners => write!(f, "no owners (10): the net has no owners"),
+            Refusal::OpenFan => write!(f, "open fan (9): a fan does not close within as many turns as there are half-edges"),
+            Refusal::NoOwners => write!(
+                f,
+                "no owners (10): a pair of 0 or more names no half-edge in use or does not point back, or an eligible half-edge, after \
+                 no or more turns, is at a row without pair"
+            ),
         }
     }
 }

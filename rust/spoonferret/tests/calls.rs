@@ -1,6 +1,6 @@
 //! Each function on the cases that document 01 works out, through the crate's own interface.
 
-use spoonferret::{next_halfedge, short_test, tri_of, Halfedge, Net, Reference, Refusal, Vec3};
+use spoonferret::{next_halfedge, short_test, tri_of, Eligible, Halfedge, Net, Reference, Refusal, Vec3};
 
 /// Two two-sided triangles that meet at vertex 0: document 01's example.
 fn example() -> Net {
@@ -82,6 +82,182 @@ fn pair() {
     assert_eq!(net.pair_up(0, 1), Err(Refusal::Shape));
     net.halfedges.push(before.halfedges[11]);
     assert_eq!(net, before);
+}
+
+/// The first six rows of the example alone, with their three vertices and a loose one: document 01's P.
+fn p() -> Net {
+    let mut net = example();
+    net.halfedges.truncate(6);
+    net.positions.truncate(4);
+    net
+}
+
+/// Bit for bit: a NaN is the same as itself.
+fn same(a: &Net, b: &Net) -> bool {
+    let bits = |net: &Net| -> Vec<[u64; 3]> { net.positions.iter().map(|p| [p.x, p.y, p.z].map(f64::to_bits)).collect() };
+    a.halfedges == b.halfedges && bits(a) == bits(b)
+}
+
+const NONE: Halfedge = Halfedge { start_vert: -1, end_vert: -1, paired_halfedge: -1, prop_vert: -1 };
+
+#[test]
+fn update() {
+    let mut net = p();
+    let before = net.clone();
+    assert_eq!(net.update_vert(0, 0, 0), Ok(()));
+    for (asked, refusal) in [
+        ([0, 0, 1], Refusal::Stopped),
+        ([-1, 0, 1], Refusal::Number),
+        ([4, 0, 1], Refusal::Number),
+        ([0, 6, 1], Refusal::Number),
+        ([0, 0, -1], Refusal::Number),
+    ] {
+        assert_eq!(net.update_vert(asked[0], asked[1], asked[2]), Err(refusal), "{asked:?}");
+    }
+    assert_eq!(net, before);
+    // 0 and 5 end at vertex 1
+    assert_eq!(net.update_vert(3, 0, 5), Ok(()));
+    let mut owed = before.clone();
+    owed.halfedges[0].end_vert = 3;
+    owed.halfedges[1].start_vert = 3;
+    assert_eq!(net, owed);
+    assert_eq!(net.update_vert(3, 0, 5), Err(Refusal::Unsound { row: 0 }));
+    net = before;
+    net.halfedges.extend([NONE; 3]);
+    assert_eq!(net.update_vert(3, 0, 6), Err(Refusal::Dead));
+    net.halfedges.pop();
+    assert_eq!(net.update_vert(3, 0, 5), Err(Refusal::Shape));
+}
+
+#[test]
+fn collapse() {
+    let mut net = p();
+    net.halfedges[1].prop_vert = 9;
+    let mut owed = net.clone();
+    assert_eq!(net.collapse_tri(6), Err(Refusal::Number));
+    assert_eq!(net, owed);
+    // second and third of 4 are 5 and 3, whose partners are 1 and 0
+    assert_eq!(net.collapse_tri(4), Ok(()));
+    owed.halfedges[1].paired_halfedge = 0;
+    owed.halfedges[0].paired_halfedge = 1;
+    owed.halfedges[3..].fill(NONE);
+    assert_eq!(net, owed);
+    assert_eq!(net.collapse_tri(4), Err(Refusal::Unsound { row: 0 }));
+    net = p();
+    net.halfedges.extend([NONE; 3]);
+    assert_eq!(net.collapse_tri(7), Err(Refusal::Dead));
+}
+
+#[test]
+fn remove() {
+    let mut net = p();
+    net.halfedges[1].prop_vert = 9;
+    assert_eq!(net.remove_if_folded(-1), Err(Refusal::Number));
+    assert_eq!(net.remove_if_folded(0), Ok(()));
+    assert_eq!(net.halfedges, [NONE; 6]);
+    let bits: Vec<u64> = net.positions.iter().flat_map(|p| [p.x, p.y, p.z]).map(f64::to_bits).collect();
+    assert_eq!(bits[..9], [0x7FF8_0000_0000_0000; 9]);
+    assert_eq!(net.positions[3], example().positions[3]);
+    assert_eq!(net.remove_if_folded(0), Err(Refusal::Dead));
+
+    // a tetrahedron is not folded anywhere
+    let rows = [[0, 1, 6], [1, 2, 9], [2, 0, 3], [0, 2, 2], [2, 3, 11], [3, 0, 7], [1, 0, 0], [0, 3, 5], [3, 1, 10], [2, 1, 1], [1, 3, 8], [3, 2, 4]];
+    let mut net = Net {
+        halfedges: rows.iter().map(|r| Halfedge::new(r[0], r[1], r[2], -1)).collect(),
+        positions: example().positions,
+        ..Net::default()
+    };
+    let before = net.clone();
+    for h in 0..12 {
+        assert_eq!(net.remove_if_folded(h), Ok(()));
+    }
+    assert_eq!(net, before);
+}
+
+#[test]
+fn loops() {
+    // the edge from 0 to 1 twice, half-edges 0 and 6
+    let rows = [
+        [0, 1, 9],
+        [1, 2, 5],
+        [2, 0, 4],
+        [1, 0, 6],
+        [0, 2, 2],
+        [2, 1, 1],
+        [0, 1, 3],
+        [1, 3, 11],
+        [3, 0, 10],
+        [1, 0, 0],
+        [0, 3, 8],
+        [3, 1, 7],
+    ];
+    let mut net = Net {
+        halfedges: rows.iter().map(|r| Halfedge::new(r[0], r[1], r[2], -1)).collect(),
+        positions: example().positions[..4].to_vec(),
+        ..Net::default()
+    };
+    let before = net.clone();
+    assert_eq!(net.form_loop(0, 12), Err(Refusal::Number));
+    assert_eq!(net.form_loop(0, 1), Err(Refusal::Stopped));
+    assert_eq!(net, before);
+    assert_eq!(net.form_loop(0, 6), Ok(()));
+    assert_eq!(net.positions.len(), 6);
+    assert_eq!(net.halfedges[6..], [NONE; 6]);
+    // the copies went to the second's triangles, and are lost with them
+    assert_eq!(net.halfedges[..6], p().halfedges);
+    assert_eq!(net.positions[..3], before.positions[..3]);
+    assert!(net.positions[3..].iter().all(|p| p.x.is_nan()));
+    assert_eq!(net.check(), Ok(()));
+
+    // the same half-edge twice: two copies that nothing uses, and the fold at P is taken out
+    let mut net = p();
+    assert_eq!(net.form_loop(0, 0), Ok(()));
+    assert_eq!(net.halfedges, [NONE; 6]);
+    assert_eq!(net.positions.len(), 6);
+    assert_eq!(net.form_loop(0, 0), Err(Refusal::Dead));
+
+    // no room for two copies, and for one
+    for vertices in [1_000_000, 999_999] {
+        let mut net = p();
+        net.positions.resize(vertices, Vec3::default());
+        let before = net.clone();
+        assert_eq!(net.form_loop(0, 0), Err(Refusal::NoRoom));
+        assert!(same(&net, &before));
+    }
+}
+
+#[test]
+fn owners() {
+    let mut net = example();
+    assert_eq!(net.orbit_owners(Eligible::Start), Ok(vec![0, 1, 2, 6, 7, 8]));
+    assert_eq!(Net::default().orbit_owners(Eligible::Start), Ok(vec![]));
+    net.halfedges[0].end_vert = -2;
+    assert_eq!(net.orbit_owners(Eligible::Start), Ok(vec![0, 1, 2, 6, 7, 8]));
+    assert_eq!(net.orbit_owners(Eligible::StartAndEnd), Ok(vec![1, 2, 4, 6, 7, 8]));
+    net.halfedges[3].paired_halfedge = 1;
+    assert_eq!(net.orbit_owners(Eligible::Start), Err(Refusal::NoOwners));
+    net.halfedges.pop();
+    assert_eq!(net.orbit_owners(Eligible::Start), Err(Refusal::Shape));
+}
+
+#[test]
+fn split() {
+    let mut net = example();
+    assert_eq!(net.split_pinched_verts(), Ok(vec![4, 0, 3, 1, 5, 2, 10, 6, 9, 7, 11, 8]));
+    assert_eq!(net.positions.len(), 6);
+    assert_eq!(net.split_pinched_verts().map(|visited| visited.len()), Ok(12));
+    assert_eq!(net.positions.len(), 6);
+    assert_eq!(Net::default().split_pinched_verts(), Ok(vec![]));
+    net.halfedges[10].end_vert = 0;
+    let before = net.clone();
+    assert_eq!(net.split_pinched_verts(), Err(Refusal::Unsound { row: 8 }));
+    assert_eq!(net, before);
+    // the bound of the vertices leaves no room
+    let mut net = example();
+    net.positions.resize(1_000_000, Vec3::default());
+    let before = net.clone();
+    assert_eq!(net.split_pinched_verts(), Err(Refusal::NoRoom));
+    assert!(same(&net, &before));
 }
 
 #[test]
