@@ -8,10 +8,11 @@ use native.Mathlib.Omega.{arith}
 use borrow.Author.Tests.{leb-true, leb-false, lt-ltb, le-ltb}
 use lib.Dec.{leb}
 use lib.IntN.{ℤ, pos, _-ℤ_}
+use Rattle.laws.proofs.Stretches.{drop-more}
 use Rattle.laws.proofs.Tests.{by-test}
 use native.Mathlib.Numerals.{add-one}
 use lib.ListN.{length, take, drop, getD, set, length-append, length-set, drop-of-length-le}
-use lib.Seq.{paste, paste-zero, paste-suc, take-paste, take-all, drop-cons, getD-take, length-take-le}
+use lib.Seq.{paste, paste-zero, paste-suc, take-paste, drop-paste, take-all, drop-cons, getD-take, length-take-le}
 use Rattle.io.specs.Digits.{digits, Fewest}
 use Rattle.digits.specs.Written.{comma, minus, glyph, decimal, signed}
 use Rattle.digits.proofs.Glyphs.{decimal-one, decimal-more}
@@ -22,10 +23,11 @@ pub appended-on : {a b c : List ℕ} {u v w : ℕ} {x y : List ℕ} → Appended
 appended-on {a} {b} {c} {u} {v} {w} {x} {y} p q = record {
   count = omega (arith, p .count, q .count, length-append x y);
   text = q .text ∙ ap (λ (l : List ℕ). l ++ y) (p .text) ∙ append-assoc (take u a) x y;
+  rest = q .rest ∙ drop-more v w b a (omega (arith, q .count)) (p .rest);
 }
 
 pub appended-none : (a : List ℕ) (u : ℕ) → Appended a u [] a u
-appended-none a u = record { count = omega arith; text = sym (append-nil (take u a)) }
+appended-none a u = record { count = omega arith; text = sym (append-nil (take u a)); rest = refl }
 
 pub appended-as : {a b : List ℕ} {u v : ℕ} {x y : List ℕ} → Appended a u x b v → x ≡ y → Appended a u y b v
 appended-as p e = rw (← e) p
@@ -53,6 +55,7 @@ pasting-done {s} {d₀} {used} {d} {i} f l h = record {
       ap (take (used + i)) (f .is)
       ∙ take-paste d₀ used s i (omega arith) (f .upto)
       ∙ ap (λ (x : List ℕ). take used d₀ ++ x) (take-all i s l);
+  rest = ap (drop (used + i)) (f .is) ∙ drop-paste d₀ used s i (omega arith) (f .upto);
 }
 
 -- io's digits, as many as it takes

@@ -5,7 +5,7 @@ use mathlib.Core.List.{List, [], _∷_, _++_}
 use mathlib.Core.Path.{_≡_}
 use Prim.Native.Nat.{ℕ, zero, suc, _+_, _*_, _/_, _≤_}
 use lib.IntN.{ℤ, pos, _-ℤ_}
-use lib.ListN.{length, take}
+use lib.ListN.{length, take, drop}
 use Rattle.digits.specs.Written.{newline, comma, decimal, signed}
 use Rattle.rows.specs.Halfedges.{is-paired}
 use Rattle.report.specs.declared.Outcome.{Outcome}
@@ -77,10 +77,11 @@ live-triangles rows (suc n) = live-triangles rows n + one (is-paired rows (3 * n
 unfoldable pub euler : ℕ → ℕ → List ℤ → ℤ
 euler vertices triangles rows = pos (vertices + live-triangles rows triangles) -ℤ pos (live-halfedges rows (3 * triangles) / 2)
 
--- bytes put behind those in use
+-- bytes put behind those in use, and what is behind them kept
 pub record Appended (before : List ℕ) (used : ℕ) (bytes : List ℕ) (after : List ℕ) (r : ℕ) : Type 0 where
   pub count : r ≡ used + length bytes
   pub text : take r after ≡ take used before ++ bytes
+  pub rest : drop r after ≡ drop r before
 
 -- the visit list holds the steps
 abbrev pub Listed : Outcome → List ℕ → Type 0

@@ -5,50 +5,43 @@ ghost use mathlib.Core.Path.{_≡_};
 ghost use Prim.Native.Nat.{_*_, _≤_};
 ghost use lib.ListN.{length};
 ghost use Rattle.rows.specs.Halfedges.{lent-halfedges};
+ghost use Rattle.split.specs.Answer.{splitSaid};
+ghost use Rattle.report.specs.Report.{Appended};
+ghost use Rattle.splitfile.specs.Printed.{outcome-of, vertices-after, split-with, text-after, reportOf, printed};
 use meshfile::Mesh;
 use net::Counts;
 use report::Outcome;
+use rows::halfedges::WIDTH;
 use split::Split;
 
-// Puts what the split answered at the front of the buffer; how many bytes that has. The reader's limits make the tests hold.
-fn tell(
-    out: &mut [u8],
-    answer: Split,
-    visit: &[u32],
-    vertices: usize,
-    triangles: usize,
-    rows: &[i32],
-) -> usize
-    requires { ⌜ (20000 ≤ length (now out)) × ((vertices ≤ 256) × ((triangles ≤ 256) × (3 * triangles ≤ lent-halfedges (now rows)))) ⌝ }
-    ensures { λ r. ⌜ r ≤ 20000 ⌝ }
+// What is reported of the split's answer.
+fn outcome_of(answer: Split) -> Outcome
+    ensures { λ r. ⌜ r ≡ outcome-of (splitSaid answer) ⌝ }
 {
     match answer {
-        Split::Done(added, steps) => {
-            if added <= 256 {
-                if steps <= 768 {
-                    if steps <= visit.len() {
-                        return report::report(
-                            out,
-                            Outcome::Done(added, steps),
-                            visit,
-                            vertices + added,
-                            triangles,
-                            rows,
-                        );
-                    }
-                }
-            }
-            0
-        }
-        Split::Shape => report::report(out, Outcome::Refused(1), visit, 0, 0, rows),
-        Split::ShortBuffer => report::report(out, Outcome::Refused(2), visit, 0, 0, rows),
-        Split::Unsound(h) => report::report(out, Outcome::Unsound(h.number()), visit, 0, 0, rows),
-        Split::OpenFan => report::report(out, Outcome::Refused(9), visit, 0, 0, rows),
-        Split::NoRoom => report::report(out, Outcome::Refused(6), visit, 0, 0, rows),
+        Split::Done(added, steps) => Outcome::Done(added, steps),
+        Split::Shape => Outcome::Refused(1),
+        Split::ShortBuffer => Outcome::Refused(2),
+        Split::Unsound(h) => Outcome::Unsound(h.number()),
+        Split::OpenFan => Outcome::Refused(9),
+        Split::NoRoom => Outcome::Refused(6),
     }
 }
 
-// Splits the net that was read, over 256 vertex rows, and tells.
+// Vertex rows after the split.
+fn vertices_after(vertices: usize, outcome: Outcome) -> usize
+    requires { ⌜ vertices-after vertices outcome ≤ 1000000 ⌝ }
+    ensures { λ r. ⌜ r ≡ vertices-after vertices outcome ⌝ }
+{
+    match outcome {
+        Outcome::Done(added, _) => vertices + added,
+        Outcome::Refused(_) => vertices,
+        Outcome::Unsound(_) => vertices,
+        Outcome::BadFile(_) => vertices,
+    }
+}
+
+// Splits the net that was read, over 256 vertex rows, and puts the report.
 fn split_net(
     out: &mut [u8],
     halfedges: &mut [i32],
@@ -56,8 +49,8 @@ fn split_net(
     vertices: usize,
     triangles: usize,
 ) -> usize
-    requires { ⌜ (20000 ≤ length (now out)) × ((vertices ≤ 256) × ((triangles ≤ 256) × (length (now halfedges) ≡ 3072))) ⌝ }
-    ensures { λ r. ⌜ r ≤ 20000 ⌝ }
+    requires { ⌜ (20000 ≤ length (now out)) × ((vertices ≤ 256) × ((triangles ≤ 256) × (3 * triangles ≤ lent-halfedges (now halfedges)))) ⌝ }
+    ensures { λ r. ⌜ Appended (now (out .entry)) 0 (text-after vertices triangles (split-with vertices triangles (now (halfedges .entry)) (now (positions .entry)))) (now (out .exit)) r × (r ≤ 20000) ⌝ }
 {
     let mut work = [0u32; 1024];
     let mut visit = [0u32; 768];
@@ -82,28 +75,34 @@ fn split_net(
         &mut work,
         &mut visit,
     );
-    tell(out, answer, &visit, vertices, triangles, halfedges)
+    let outcome = outcome_of(answer);
+    report::report(
+        out,
+        outcome,
+        &visit,
+        vertices_after(vertices, outcome),
+        triangles,
+        halfedges,
+    )
 }
 
-// Reads a file, splits it and puts the report; how many bytes that has.
-pub fn split_file(text: &[u8], out: &mut [u8]) -> usize
-    requires { ⌜ 20000 ≤ length (now out) ⌝ }
-    ensures { λ r. ⌜ r ≤ 20000 ⌝ }
+// Reads a file, splits it and puts the report at the front of the buffer; how many bytes that has.
+pub fn split_file(text: &[u8], out: &mut [u8; 20000]) -> usize
+    ensures { λ r. ⌜ (r, now (out .exit)) ≡ printed (reportOf (now (text .entry))) (now (out .entry)) ⌝ }
 {
-    let mut halfedges = [0i32; 3072];
+    let mut halfedges = [0i32; 768 * WIDTH];
     let mut positions = [0u64; 768];
     let visit = [0u32; 1];
     let rows = [0i32; 1];
     match meshfile::read(text, &mut halfedges, &mut positions) {
         Mesh::Bad(line) => report::report(out, Outcome::BadFile(line), &visit, 0, 0, &rows),
         Mesh::TooLarge => report::report(out, Outcome::Refused(1), &visit, 0, 0, &rows),
-        Mesh::Read(vertices, triangles) => {
-            if vertices <= 256 {
-                if triangles <= 256 {
-                    return split_net(out, &mut halfedges, &mut positions, vertices, triangles);
-                }
-            }
-            0
-        }
+        Mesh::Read(vertices, triangles) => split_net(
+            out,
+            &mut halfedges,
+            &mut positions,
+            vertices,
+            triangles,
+        ),
     }
 }

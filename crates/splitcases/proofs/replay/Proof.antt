@@ -2,6 +2,7 @@
 use mathlib.Core.Path.{sym}
 use lib.Seq.{length-take-le}
 use borrow.Author.Needs.{needs}
+use Rattle.splitfile.proofs.Told.{printed-within}
 use Rattle.splitcases.proofs.replay.Statement.{statement}
 use Rattle.splitcases.proofs.replay.Tie as tie
 
@@ -32,9 +33,6 @@ array-share-prefix-text c = search needs
 slice-aggregate-split-file : tie.Need-slice-aggregate-split-file
 slice-aggregate-split-file c = search needs
 
-slice-aggregate-split-file-2 : tie.Need-slice-aggregate-split-file-2
-slice-aggregate-split-file-2 c = search needs
-
 split-file-requires : tie.Need-split-file-requires
 split-file-requires c κs = search needs
 
@@ -54,12 +52,12 @@ write-all-requires-3 : tie.Need-write-all-requires-3
 write-all-requires-3 c κs = search needs
 
 array-share-prefix-out : tie.Need-array-share-prefix-out
-array-share-prefix-out c = search needs
+array-share-prefix-out c = let r = c .before .before .before .before .before .split-file in printed-within _ _ (r .ensures)
 
 slice-aggregate-write-all-3 : tie.Need-slice-aggregate-write-all-3
 slice-aggregate-write-all-3 c =
-    let r = c .before .before .before .before .before .before .before .split-file in
-    sym (length-take-le (r .result) (r .last .1 .0) (rw (r .kept .1 .0) (r .ensures)))
+    let r = c .before .before .before .before .before .before .split-file in
+    sym (length-take-le (r .result) (r .last .1 .0) (printed-within _ _ (r .ensures)))
 
 write-all-requires-4 : tie.Need-write-all-requires-4
 write-all-requires-4 c κs = search needs
@@ -80,7 +78,6 @@ replay-spec =
     close-requires
     array-share-prefix-text
     slice-aggregate-split-file
-    slice-aggregate-split-file-2
     split-file-requires
     slice-aggregate-write-all
     write-all-requires

@@ -2,6 +2,7 @@
 use mathlib.Core.Path.{sym}
 use lib.Seq.{length-take-le}
 use borrow.Author.Needs.{needs}
+use Rattle.splitfile.proofs.Told.{printed-within}
 use Rattle.splitreport.proofs.main.Statement.{statement}
 use Rattle.splitreport.proofs.main.Tie as tie
 
@@ -20,19 +21,16 @@ array-share-prefix-text c = search needs
 slice-aggregate-split-file : tie.Need-slice-aggregate-split-file
 slice-aggregate-split-file c = search needs
 
-slice-aggregate-split-file-2 : tie.Need-slice-aggregate-split-file-2
-slice-aggregate-split-file-2 c = search needs
-
 split-file-requires : tie.Need-split-file-requires
 split-file-requires c κs = search needs
 
 array-share-prefix-out : tie.Need-array-share-prefix-out
-array-share-prefix-out c = search needs
+array-share-prefix-out c = let r = c .split-file in printed-within _ _ (r .ensures)
 
 slice-aggregate-write-all : tie.Need-slice-aggregate-write-all
 slice-aggregate-write-all c =
-    let r = c .before .before .split-file in
-    sym (length-take-le (r .result) (r .last .1 .0) (rw (r .kept .1 .0) (r .ensures)))
+    let r = c .before .split-file in
+    sym (length-take-le (r .result) (r .last .1 .0) (printed-within _ _ (r .ensures)))
 
 write-all-requires : tie.Need-write-all-requires
 write-all-requires c κs = search needs
@@ -49,7 +47,6 @@ main-spec =
     read-full-requires
     array-share-prefix-text
     slice-aggregate-split-file
-    slice-aggregate-split-file-2
     split-file-requires
     array-share-prefix-out
     slice-aggregate-write-all
