@@ -1,10 +1,13 @@
 -- `digits::read_number` meets its contract: −1 where that stands, else a count, which fits.
-use mathlib.Core.Path.{sym}
+use mathlib.Core.Path.{_≡_, sym}
+use mathlib.Core.List.{[], _∷_}
 use native.Mathlib.Omega.{arith}
 use lib.IntN.{pos}
+use lib.ListN.{drop}
 use mir.Syntax.{w32}
 use Rattle.laws.proofs.Integers.{fit, bits-back}
-use Rattle.digits.specs.Steps.{number}
+use Rattle.digits.specs.Steps.{got, after, number}
+use Rattle.digits.specs.Written.{minus}
 use Rattle.digits.proofs.Turns.{count-most}
 use borrow.Author.Needs.{needs}
 use Rattle.digits.proofs.read_number.Statement.{statement}
@@ -36,7 +39,10 @@ enum-told-2 c = search needs
 
 returns : tie.Need-returns
 unfolding number
-returns c = rw (← (rw (c .before .next .given .1) at (c .before .before .before .word .ensures)))
+returns c =
+    let text = c .before .before .before .before .before .before .args .text .now in
+    let here : after (minus ∷ 49 ∷ []) (drop (c .before .before .before .before .before .before .args .at) text) ≡ got 0 (drop (c .before .next .given .0 .0) text) = sym (rw (c .before .next .given .1) at (c .before .before .before .word .ensures)) in
+    rw here
 
 returns-2 : tie.Need-returns-2
 unfolding number

@@ -1,8 +1,9 @@
 -- `meshfile::check_body` meets its contract: the positions, the rows, and the end.
+use mathlib.Core.Path.{_≡_}
 use native.Mathlib.Nat.{le-refl}
 use lib.ListN.{drop}
 use Rattle.digits.proofs.Turns.{cons, none}
-use Rattle.meshfile.specs.Steps.{body-of}
+use Rattle.meshfile.specs.Steps.{position-step, lines-of, bad-line, body-of}
 use Rattle.meshfile.proofs.Turns.{lines-passed, lines-stopped}
 use borrow.Author.Needs.{needs}
 use Rattle.meshfile.proofs.check_body.Statement.{statement}
@@ -52,7 +53,10 @@ enum-told-2 c = search needs
 
 returns : tie.Need-returns
 unfolding body-of
-returns c = (rw (lines-stopped _ _ _ _ _ (rw (c .before .line .given .1) at (c .before .before .before .pass-positions .ensures))), tt)
+returns c =
+    let text = c .before .before .before .before .before .args .text .now in
+    let stopped : lines-of position-step (c .before .before .before .before .before .args .vertices) 4 (drop (c .before .before .before .before .before .args .first) text) ≡ bad-line (c .before .line .given .0 .0) = lines-stopped _ _ _ _ _ (rw (c .before .line .given .1) at (c .before .before .before .pass-positions .ensures)) in
+    (rw stopped, tt)
 
 returns-2 : tie.Need-returns-2
 unfolding body-of

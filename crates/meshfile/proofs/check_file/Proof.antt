@@ -1,6 +1,8 @@
 -- `meshfile::check_file` meets its contract: the three first lines, the limits, and the rest.
-use mathlib.Core.Path.{_∙_}
+use mathlib.Core.Path.{_≡_, _∙_}
+use mathlib.Core.Bool.{true, _||_}
 use native.Mathlib.Omega.{arith}
+use lib.Dec.{ltb}
 use Rattle.meshfile.specs.Steps.{found}
 use Rattle.meshfile.proofs.Turns.{neither, within-more}
 use borrow.Author.Needs.{needs}
@@ -18,7 +20,10 @@ enum-known-vertices c = search needs
 
 returns : tie.Need-returns
 unfolding found
-returns c = (rw (← (rw (c .before .before .before .before .vertices .given .1) at (c .before .before .before .before .before .before .first-lines .ensures)), c .if1 .taken), tt)
+returns c =
+    let limits = c .before .before .before .before .before .before .before .before .args .limits in
+    let many : ltb (limits .vertices) (c .before .before .before .before .vertices .given .0 .0) || ltb (limits .triangles) (c .before .before .before .before .vertices .given .0 .1 .0) ≡ true = c .if1 .taken in
+    (rw (← (rw (c .before .before .before .before .vertices .given .1) at (c .before .before .before .before .before .before .first-lines .ensures)), many), tt)
 
 check-body-requires : tie.Need-check-body-requires
 check-body-requires c κs = let p = neither (c .before .before .before .before .before .before .before .before .args .limits .vertices) (c .before .before .before .before .vertices .given .0 .0) (c .before .before .before .before .before .before .before .before .args .limits .triangles) (c .before .before .before .before .vertices .given .0 .1 .0) (c .if1 .left) in (omega arith, omega arith)
