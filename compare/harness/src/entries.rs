@@ -3,6 +3,7 @@
 use crate::chance::Chance;
 use crate::lent::{signed, Asked, Guarded, GuardedNet, Lent, Said};
 use crate::reading::{self, caught, Ran};
+use original::impl_mesh::ManifoldImpl;
 use original::linalg::{dot, Vec3};
 use spoonferret::raw;
 
@@ -15,11 +16,35 @@ pub struct Entry {
     pub ours: fn(&mut Lent, &Asked) -> Result<Said, String>,
     pub owed: fn(&mut Lent, &Asked) -> Said,
     pub asks: fn(&Lent, &mut Chance) -> Vec<Asked>,
+    /// everything inside the limits that a small net can be asked
+    pub all: fn(&Lent, &mut Chance) -> Vec<Asked>,
     /// the buffers that it takes, one short, exact, long, and filled with anything
     pub lends: fn(&mut Lent, &mut Chance),
 }
 
 fn no_buffers(_: &mut Lent, _: &mut Chance) {}
+
+/// Calls an entry that works on a net, between guards: the counts, the five arrays, and what else it takes.
+macro_rules! call {
+    ($entry:ident, $g:ident $(, $more:expr)*) => {
+        unsafe {
+            raw::$entry(
+                $g.used,
+                $g.halfedges.at(),
+                $g.halfedges.length(),
+                $g.positions.at(),
+                $g.positions.length(),
+                $g.normals.at(),
+                $g.normals.length(),
+                $g.references.at(),
+                $g.references.length(),
+                $g.properties.at(),
+                $g.properties.length()
+                $(, $more)*
+            )
+        }
+    };
+}
 
 pub enum Field {
     Signed(&'static str),
@@ -28,12 +53,16 @@ pub enum Field {
 
 use Field::{Plain, Signed};
 
+fn nothing_asked(_: &Lent, _: &mut Chance) -> Vec<Asked> {
+    Asked::nothing()
+}
+
 pub const ALL: &[Entry] = &[
-    Entry { name: "next_halfedge", on_nets: false, fields: &[Signed("next")], ours: next_ours, owed: next_owed, asks: edge_numbers, lends: no_buffers },
-    Entry { name: "tri_of", on_nets: false, fields: &[Signed("first"), Signed("second"), Signed("third")], ours: tri_ours, owed: tri_owed, asks: edge_numbers, lends: no_buffers },
-    Entry { name: "short_test", on_nets: false, fields: &[Plain("squared_length"), Plain("limit")], ours: short_ours, owed: short_owed, asks: short_asks, lends: no_buffers },
-    Entry { name: "check_net", on_nets: true, fields: &[Plain("row")], ours: check_ours, owed: check_owed, asks: |_, _| Asked::nothing(), lends: no_buffers },
-    Entry { name: "pair_up", on_nets: true, fields: &[], ours: pair_ours, owed: pair_owed, asks: pair_asks, lends: no_buffers },
+    Entry { name: "next_halfedge", on_nets: false, fields: &[Signed("next")], ours: next_ours, owed: next_owed, asks: edge_numbers, all: nothing_asked, lends: no_buffers },
+    Entry { name: "tri_of", on_nets: false, fields: &[Signed("first"), Signed("second"), Signed("third")], ours: tri_ours, owed: tri_owed, asks: edge_numbers, all: nothing_asked, lends: no_buffers },
+    Entry { name: "short_test", on_nets: false, fields: &[Plain("squared_length"), Plain("limit")], ours: short_ours, owed: short_owed, asks: short_asks, all: nothing_asked, lends: no_buffers },
+    Entry { name: "check_net", on_nets: true, fields: &[Plain("row")], ours: check_ours, owed: check_owed, asks: nothing_asked, all: nothing_asked, lends: no_buffers },
+    Entry { name: "pair_up", on_nets: true, fields: &[], ours: pair_ours, owed: pair_owed, asks: pair_asks, all: each_pair, lends: no_buffers },
     Entry {
         name: "split_pinched_verts",
         on_nets: true,
@@ -41,8 +70,14 @@ pub const ALL: &[Entry] = &[
         ours: split_ours,
         owed: split_owed,
         asks: |_, _| vec![Asked::default(); 3],
+        all: nothing_asked,
         lends: split_lends,
     },
+    Entry { name: "orbit_owners", on_nets: true, fields: &[Plain("count")], ours: owners_ours, owed: owners_owed, asks: owners_asks, all: owners_asks, lends: owners_lends },
+    Entry { name: "update_vert", on_nets: true, fields: &[Plain("row")], ours: update_ours, owed: update_owed, asks: update_asks, all: each_update, lends: no_buffers },
+    Entry { name: "collapse_tri", on_nets: true, fields: &[Plain("row")], ours: collapse_ours, owed: collapse_owed, asks: halfedge_asks, all: each_halfedge, lends: no_buffers },
+    Entry { name: "remove_if_folded", on_nets: true, fields: &[Plain("row")], ours: fold_ours, owed: fold_owed, asks: halfedge_asks, all: each_halfedge, lends: no_buffers },
+    Entry { name: "form_loop", on_nets: true, fields: &[Plain("row"), Plain("vertices")], ours: loop_ours, owed: loop_owed, asks: loop_asks, all: each_pair, lends: loop_lends },
 ];
 
 // next_halfedge, tri_of: the Rust's sum that wraps is answer 4
@@ -165,7 +200,7 @@ fn short_owed(_: &mut Lent, a: &Asked) -> Said {
 fn collapses(f: &[u64], end: i32, first_new_vert: i32, tol: f64, epsilon: f64) -> bool {
     let third = if end == 9 { 8 } else { 9 };
     let rows = [[0, end, 3], [end, third, 5], [third, 0, 4], [end, 0, 0], [0, third, 2], [third, end, 1]];
-    let mut mesh = original::impl_mesh::ManifoldImpl {
+    let mut mesh = ManifoldImpl {
         epsilon,
         vert_pos: vec![Vec3::new(0.5, 0.5, 0.5); 10],
         halfedge: rows
@@ -242,21 +277,7 @@ fn short_asks(_: &Lent, chance: &mut Chance) -> Vec<Asked> {
 
 fn check_ours(l: &mut Lent, _: &Asked) -> Result<Said, String> {
     let mut g = GuardedNet::of(l);
-    let told = unsafe {
-        raw::spoonferret_check_net(
-            g.used,
-            g.halfedges.at(),
-            g.halfedges.length(),
-            g.positions.at(),
-            g.positions.length(),
-            g.normals.at(),
-            g.normals.length(),
-            g.references.at(),
-            g.references.length(),
-            g.properties.at(),
-            g.properties.length(),
-        )
-    };
+    let told = call!(spoonferret_check_net, g);
     g.back(l)?;
     Ok(match told.number {
         3 => Said::with(3, &[told.row as u64]),
@@ -272,23 +293,7 @@ fn check_owed(l: &mut Lent, _: &Asked) -> Said {
 
 fn pair_ours(l: &mut Lent, a: &Asked) -> Result<Said, String> {
     let mut g = GuardedNet::of(l);
-    let told = unsafe {
-        raw::spoonferret_pair_up(
-            g.used,
-            g.halfedges.at(),
-            g.halfedges.length(),
-            g.positions.at(),
-            g.positions.length(),
-            g.normals.at(),
-            g.normals.length(),
-            g.references.at(),
-            g.references.length(),
-            g.properties.at(),
-            g.properties.length(),
-            a.numbers[0],
-            a.numbers[1],
-        )
-    };
+    let told = call!(spoonferret_pair_up, g, a.numbers[0], a.numbers[1]);
     g.back(l)?;
     Ok(Said::refused(told.number))
 }
@@ -308,19 +313,43 @@ fn pair_owed(l: &mut Lent, a: &Asked) -> Said {
     }
 }
 
-/// Half-edge numbers at and beside their limits, and one inside.
-pub fn halfedges_beside(l: &Lent, chance: &mut Chance) -> Vec<i32> {
-    let rows = l.used.halfedges.min(i32::MAX as usize) as i32;
-    let inside = if rows > 0 { chance.below(rows as usize) as i32 } else { 0 };
-    vec![-1, 0, rows.saturating_sub(1), rows, inside, *chance.pick(&[i32::MIN, i32::MAX, rows.saturating_add(1), -2])]
+/// Numbers at and beside the limits of 0..count, and one inside.
+fn beside(count: usize, chance: &mut Chance) -> [i32; 6] {
+    let most = count.min(i32::MAX as usize) as i32;
+    [-1, 0, most.saturating_sub(1), most, inside(count, chance), *chance.pick(&[i32::MIN, i32::MAX, most.saturating_add(1), -2])]
+}
+
+/// One of 0..count, where there is one.
+fn inside(count: usize, chance: &mut Chance) -> i32 {
+    let most = count.min(i32::MAX as usize);
+    if most > 0 {
+        chance.below(most) as i32
+    } else {
+        0
+    }
 }
 
 fn pair_asks(l: &Lent, chance: &mut Chance) -> Vec<Asked> {
-    let (a, b) = (halfedges_beside(l, chance), halfedges_beside(l, chance));
+    let (a, b) = (beside(l.used.halfedges, chance), beside(l.used.halfedges, chance));
     let mut all: Vec<Asked> = (0..6).map(|i| Asked::numbers(&[a[i], b[(i + 1 + chance.below(5)) % 6]])).collect();
     all.push(Asked::numbers(&[a[4], b[4]]));
     all.push(Asked::numbers(&[a[4], a[4]]));
     all
+}
+
+fn halfedge_asks(l: &Lent, chance: &mut Chance) -> Vec<Asked> {
+    let mut all: Vec<Asked> = beside(l.used.halfedges, chance).iter().map(|&h| Asked::numbers(&[h])).collect();
+    all.extend((0..2).map(|_| Asked::numbers(&[inside(l.used.halfedges, chance)])));
+    all
+}
+
+fn each_halfedge(l: &Lent, _: &mut Chance) -> Vec<Asked> {
+    (0..l.used.halfedges as i32).map(|h| Asked::numbers(&[h])).collect()
+}
+
+fn each_pair(l: &Lent, _: &mut Chance) -> Vec<Asked> {
+    let rows = l.used.halfedges as i32;
+    (0..rows).flat_map(|a| (0..rows).map(move |b| Asked::numbers(&[a, b]))).collect()
 }
 
 // split_pinched_verts: the Rust's sequential arm; the visit list and the work buffer are document 01's own
@@ -328,7 +357,7 @@ fn pair_asks(l: &Lent, chance: &mut Chance) -> Vec<Asked> {
 /// So many elements, mostly enough, holding anything.
 fn lent_about<T>(needed: usize, chance: &mut Chance, of: impl Fn(u64) -> T) -> Vec<T> {
     // counts that no net can have are answer 1 whatever is lent
-    let needed = if needed > 5_000_000 { 20 } else { needed };
+    let needed = if needed > 12_000_000 { 20 } else { needed };
     let length = match chance.below(8) {
         0 => needed.saturating_sub(1),
         1 => 0,
@@ -336,6 +365,17 @@ fn lent_about<T>(needed: usize, chance: &mut Chance, of: impl Fn(u64) -> T) -> V
         _ => needed + 1 + chance.below(4),
     };
     (0..length).map(|_| of(chance.bits() | 1)).collect()
+}
+
+/// Every buffer that an entry takes, long enough.
+pub fn lend_enough(l: &mut Lent, chance: &mut Chance) {
+    let (rows, vertices) = (l.used.halfedges, l.used.vertices);
+    let mut anything = |needed: usize| -> Vec<u64> { (0..needed + chance.below(2)).map(|_| chance.bits() | 1).collect() };
+    l.work_bytes = anything(rows).iter().map(|&b| b as u8).collect();
+    l.work_words = anything(rows + vertices).iter().map(|&b| b as u32).collect();
+    l.list = anything(rows).iter().map(|&b| b as u32).collect();
+    l.spare_halfedges = anything(4 * rows).iter().map(|&b| b as i32).collect();
+    l.spare_positions = anything(3 * vertices);
 }
 
 fn split_lends(l: &mut Lent, chance: &mut Chance) {
@@ -346,25 +386,7 @@ fn split_lends(l: &mut Lent, chance: &mut Chance) {
 fn split_ours(l: &mut Lent, _: &Asked) -> Result<Said, String> {
     let mut g = GuardedNet::of(l);
     let (mut work, mut list) = (Guarded::new(&l.work_words), Guarded::new(&l.list));
-    let told = unsafe {
-        raw::spoonferret_split_pinched_verts(
-            g.used,
-            g.halfedges.at(),
-            g.halfedges.length(),
-            g.positions.at(),
-            g.positions.length(),
-            g.normals.at(),
-            g.normals.length(),
-            g.references.at(),
-            g.references.length(),
-            g.properties.at(),
-            g.properties.length(),
-            work.at(),
-            work.length(),
-            list.at(),
-            list.length(),
-        )
-    };
+    let told = call!(spoonferret_split_pinched_verts, g, work.at(), work.length(), list.at(), list.length());
     g.back(l)?;
     work.back("work buffer", &mut l.work_words)?;
     list.back("visit list", &mut l.list)?;
@@ -401,4 +423,216 @@ fn split_owed(l: &mut Lent, _: &Asked) -> Said {
         }
         Ran::Stopped => refused(7, 0),
     }
+}
+
+/// What the original leaves past the answers 1 to 5, and the second reading besides: where the two are not the same, 99, which shows as a difference.
+fn agreed(l: &mut Lent, read: impl FnOnce(&mut Lent) -> Said, original: impl FnOnce(&mut ManifoldImpl)) -> Said {
+    let mut left = l.clone();
+    let said = read(&mut left);
+    let agree = match said.number {
+        0 => matches!(reading::run(l, original), Ran::Done(())) && {
+            (l.spare_halfedges, l.spare_positions) = (left.spare_halfedges.clone(), left.spare_positions.clone());
+            l.differs(&left).is_none()
+        },
+        6 => matches!(reading::run(l, original), Ran::NoRoom),
+        7 => matches!(reading::run(l, original), Ran::Stopped),
+        _ => true,
+    };
+    *l = left;
+    if agree {
+        said
+    } else {
+        Said::refused(99)
+    }
+}
+
+// orbit_owners: the Rust built with its feature `parallel`, threshold 0, on one thread
+
+fn owners_asks(_: &Lent, _: &mut Chance) -> Vec<Asked> {
+    [false, true, false, true].map(|choice| Asked { choice, ..Asked::default() }).to_vec()
+}
+
+fn owners_lends(l: &mut Lent, chance: &mut Chance) {
+    l.work_bytes = lent_about(l.used.halfedges, chance, |b| b as u8);
+    l.list = lent_about(l.used.halfedges, chance, |b| b as u32);
+}
+
+fn owners_ours(l: &mut Lent, a: &Asked) -> Result<Said, String> {
+    let mut g = GuardedNet::of(l);
+    let (mut work, mut list) = (Guarded::new(&l.work_bytes), Guarded::new(&l.list));
+    let told = call!(spoonferret_orbit_owners, g, work.at(), work.length(), list.at(), list.length(), a.choice);
+    g.back(l)?;
+    work.back("work buffer", &mut l.work_bytes)?;
+    list.back("list", &mut l.list)?;
+    Ok(Said::with(told.number, &[told.count as u64]))
+}
+
+fn owners_owed(l: &mut Lent, a: &Asked) -> Said {
+    let rows: Vec<parallel::types::Halfedge> = l
+        .halfedges
+        .chunks_exact(4)
+        .take(l.used.halfedges)
+        .map(|r| parallel::types::Halfedge { start_vert: r[0], end_vert: r[1], paired_halfedge: r[2], prop_vert: r[3] })
+        .collect();
+    let said = reading::orbit_owners(l, a.choice);
+    let owned = |said: &Said| match said.number {
+        0 => Some(l.list[..said.values[0] as usize].iter().map(|&h| h as usize).collect::<Vec<usize>>()),
+        _ => None,
+    };
+    let agree = said.number < 3 && said.number > 0 || caught(|| parallel::edge_op::private::orbit_owners(&rows, a.choice)) == Some(owned(&said));
+    if agree {
+        said
+    } else {
+        Said::refused(99)
+    }
+}
+
+// update_vert
+
+/// Where a walk of update_vert is after so many moves, as long as there is a row.
+fn on_the_way(l: &Lent, start: i32, moves: usize) -> i32 {
+    let mut at = start;
+    for _ in 0..moves {
+        let next = at as usize / 3 * 3 + (at as usize + 1) % 3;
+        match l.halfedges.get(4 * next + 2) {
+            Some(&p) if p >= 0 => at = p,
+            _ => break,
+        }
+    }
+    at
+}
+
+fn update_asks(l: &Lent, chance: &mut Chance) -> Vec<Asked> {
+    let (rows, vertices) = (l.used.halfedges, l.used.vertices);
+    let mut all = vec![];
+    for i in 0..9 {
+        let start = inside(rows, chance);
+        let mut numbers = [inside(vertices, chance), start, on_the_way(l, start, chance.below(6))];
+        if i < 6 {
+            let limits = beside(if i % 3 == 0 { vertices } else { rows }, chance);
+            numbers[i % 3] = *chance.pick(&limits);
+        }
+        all.push(Asked::numbers(&numbers));
+    }
+    all
+}
+
+/// Every start and end, in the smallest nets with every vertex.
+fn each_update(l: &Lent, chance: &mut Chance) -> Vec<Asked> {
+    let vertices = l.used.vertices as i32;
+    each_pair(l, chance)
+        .iter()
+        .flat_map(|a| {
+            let named = if l.used.halfedges > 6 { vec![chance.below(vertices as usize) as i32] } else { (0..vertices).collect() };
+            named.into_iter().map(|v| Asked::numbers(&[v, a.numbers[0], a.numbers[1]])).collect::<Vec<_>>()
+        })
+        .collect()
+}
+
+fn update_ours(l: &mut Lent, a: &Asked) -> Result<Said, String> {
+    let mut g = GuardedNet::of(l);
+    let told = call!(spoonferret_update_vert, g, a.numbers[0], a.numbers[1], a.numbers[2]);
+    g.back(l)?;
+    Ok(Said::with(told.number, &[told.row as u64]))
+}
+
+fn update_owed(l: &mut Lent, a: &Asked) -> Said {
+    let [vertex, start, end] = [a.numbers[0], a.numbers[1], a.numbers[2]];
+    agreed(
+        l,
+        |l| reading::update_vert(l, vertex, start, end),
+        |mesh| original::edge_op::update_vert(mesh, vertex, start as usize, end as usize),
+    )
+}
+
+// collapse_tri: the Rust takes the three numbers of tri_of
+
+fn collapse_ours(l: &mut Lent, a: &Asked) -> Result<Said, String> {
+    let mut g = GuardedNet::of(l);
+    let told = call!(spoonferret_collapse_tri, g, a.numbers[0]);
+    g.back(l)?;
+    Ok(Said::with(told.number, &[told.row as u64]))
+}
+
+fn collapse_owed(l: &mut Lent, a: &Asked) -> Said {
+    let h = a.numbers[0];
+    agreed(
+        l,
+        |l| reading::collapse_tri(l, h),
+        |mesh| original::edge_op::collapse_tri(&mut mesh.halfedge, original::edge_op::private::tri_of(h as usize)),
+    )
+}
+
+// remove_if_folded
+
+fn fold_ours(l: &mut Lent, a: &Asked) -> Result<Said, String> {
+    let mut g = GuardedNet::of(l);
+    let told = call!(spoonferret_remove_if_folded, g, a.numbers[0]);
+    g.back(l)?;
+    Ok(Said::with(told.number, &[told.row as u64]))
+}
+
+fn fold_owed(l: &mut Lent, a: &Asked) -> Said {
+    let h = a.numbers[0];
+    agreed(l, |l| reading::remove_if_folded(l, h), |mesh| original::edge_op::remove_if_folded(mesh, h as usize))
+}
+
+// form_loop
+
+/// A row that starts and ends where h does, h itself among them.
+fn alongside(l: &Lent, h: i32, chance: &mut Chance) -> i32 {
+    let Some(row) = l.halfedges.get(4 * h as usize..4 * h as usize + 2) else {
+        return h;
+    };
+    let all: Vec<usize> = (0..l.used.halfedges.min(l.halfedges.len() / 4)).filter(|&g| &l.halfedges[4 * g..4 * g + 2] == row).collect();
+    all.get(inside(all.len(), chance) as usize).map_or(h, |&g| g as i32)
+}
+
+fn loop_asks(l: &Lent, chance: &mut Chance) -> Vec<Asked> {
+    let rows = l.used.halfedges;
+    let mut all = vec![];
+    for i in 0..8 {
+        let limits = beside(rows, chance);
+        let first = limits[4];
+        let mut numbers = [first, if i % 2 == 0 { first } else { alongside(l, first, chance) }];
+        match i {
+            0..=3 => numbers[i % 2] = *chance.pick(&limits),
+            4 => numbers[1] = inside(rows, chance),
+            _ => {}
+        }
+        all.push(Asked::numbers(&numbers));
+    }
+    all
+}
+
+fn loop_lends(l: &mut Lent, chance: &mut Chance) {
+    l.spare_halfedges = lent_about(l.used.halfedges.saturating_mul(4), chance, |b| b as i32);
+    l.spare_positions = lent_about(l.used.vertices.saturating_mul(3), chance, |b| b);
+}
+
+fn loop_ours(l: &mut Lent, a: &Asked) -> Result<Said, String> {
+    let mut g = GuardedNet::of(l);
+    let (mut saved, mut held) = (Guarded::new(&l.spare_halfedges), Guarded::new(&l.spare_positions));
+    let told = call!(
+        spoonferret_form_loop,
+        g,
+        saved.at(),
+        saved.length(),
+        held.at(),
+        held.length(),
+        a.numbers[0],
+        a.numbers[1]
+    );
+    g.back(l)?;
+    saved.back("spare half-edges", &mut l.spare_halfedges)?;
+    held.back("spare positions", &mut l.spare_positions)?;
+    if told.number == 0 {
+        l.used.vertices = told.vertices;
+    }
+    Ok(Said::with(told.number, &[told.row as u64, told.vertices as u64]))
+}
+
+fn loop_owed(l: &mut Lent, a: &Asked) -> Said {
+    let (first, second) = (a.numbers[0], a.numbers[1]);
+    agreed(l, |l| reading::form_loop(l, first, second), |mesh| original::edge_op::form_loop(mesh, first as usize, second as usize))
 }

@@ -14,6 +14,7 @@ use chance::Chance;
 use entries::{Entry, ALL};
 use lent::{Asked, Lent};
 use std::io::Write;
+use std::time::Instant;
 
 #[derive(Default)]
 struct Line {
@@ -40,7 +41,7 @@ impl Line {
         self.differences += 1;
         let size = net.size();
         if self.smallest.as_ref().is_none_or(|(least, _)| size < *least) {
-            let buffers = (&net.work_bytes, &net.work_words, &net.work_longs, &net.list);
+            let buffers = (&net.work_bytes, &net.work_words, &net.work_longs, &net.list, &net.spare_halfedges, &net.spare_positions);
             self.smallest = Some((size, format!("{}: {wrong}\n{}{buffers:?}\n", entry.name, replay::call(which, net, asked))));
         }
     }
@@ -48,17 +49,29 @@ impl Line {
 
 struct Table {
     lines: Vec<Line>,
-    shown: std::time::Instant,
+    began: Instant,
+    shown: Instant,
 }
 
 impl Table {
+    fn new() -> Table {
+        Table { lines: ALL.iter().map(|_| Line::default()).collect(), began: Instant::now(), shown: Instant::now() }
+    }
+
     fn run(&mut self, which: usize, net: &Lent, asked: &Asked) {
         self.lines[which].take(&ALL[which], which, net, asked);
         if self.shown.elapsed().as_secs() >= 5 {
-            self.shown = std::time::Instant::now();
-            let calls: u64 = self.lines.iter().map(|l| l.calls).sum();
-            eprintln!("  {calls} calls");
+            self.shown = Instant::now();
+            eprintln!("  {} calls", self.calls());
         }
+    }
+
+    fn calls(&self) -> u64 {
+        self.lines.iter().map(|l| l.calls).sum()
+    }
+
+    fn stage(&self, what: &str) {
+        eprintln!("{what} ({} calls so far, {} s)", self.calls(), self.began.elapsed().as_secs());
     }
 
     /// Every entry that works on nets, on one.
@@ -66,27 +79,43 @@ impl Table {
         self.on_with(net, usize::MAX, chance);
     }
 
-    /// The same, asked at most so much: for large nets.
-    fn on_with(&mut self, net: &Lent, most: usize, chance: &mut Chance) {
+    /// Every entry, asked everything that there is: for small nets.
+    fn on_all(&mut self, net: &Lent, chance: &mut Chance) {
         for (which, entry) in ALL.iter().enumerate().filter(|(_, e)| e.on_nets) {
-            let mut asks = (entry.asks)(net, chance);
-            chance.shuffle(&mut asks);
-            for asked in asks.iter().take(most) {
-                let mut lent = net.clone();
-                (entry.lends)(&mut lent, chance);
-                self.run(which, &lent, asked);
+            let mut lent = net.clone();
+            for asked in (entry.all)(net, chance) {
+                entries::lend_enough(&mut lent, chance);
+                self.run(which, &lent, &asked);
             }
         }
     }
-}
 
-fn stage(what: &str) {
-    eprintln!("{what}");
+    /// The same, asked at most so much: for large nets.
+    fn on_with(&mut self, net: &Lent, most: usize, chance: &mut Chance) {
+        for which in (0..ALL.len()).filter(|&i| ALL[i].on_nets) {
+            self.one(which, net, most, chance);
+        }
+    }
+
+    /// One entry, the same.
+    fn one(&mut self, which: usize, net: &Lent, most: usize, chance: &mut Chance) {
+        let mut asks = (ALL[which].asks)(net, chance);
+        chance.shuffle(&mut asks);
+        let mut lent = net.clone();
+        for asked in asks.iter().take(most) {
+            (ALL[which].lends)(&mut lent, chance);
+            self.run(which, &lent, asked);
+        }
+    }
 }
 
 fn main() {
     std::panic::set_hook(Box::new(|_| {}));
     let words: Vec<String> = std::env::args().collect();
+    parallel::on_one_thread(|| called(&words));
+}
+
+fn called(words: &[String]) {
     let seed = words.last().and_then(|w| w.parse().ok()).unwrap_or(1);
     let chance = &mut Chance::new(seed);
     match words.get(1).map(String::as_str) {
@@ -103,10 +132,11 @@ fn main() {
 
 /// `times` is the size: 1 quick, 30 whole, 0 a few calls of each kind (for a run under memcheck).
 fn compare(times: usize, chance: &mut Chance) {
-    let mut table = Table { lines: ALL.iter().map(|_| Line::default()).collect(), shown: std::time::Instant::now() };
-    let table = &mut table;
+    let table = &mut Table::new();
+    // how much each entry is asked of each of many nets that are nearly the same
+    let few = if times > 1 { usize::MAX } else { 2 };
 
-    stage("numbers alone");
+    table.stage("numbers alone");
     for (which, entry) in ALL.iter().enumerate().filter(|(_, e)| !e.on_nets) {
         for _ in 0..(times * 100).max(1) {
             for asked in (entry.asks)(&Lent::default(), chance) {
@@ -115,7 +145,7 @@ fn compare(times: usize, chance: &mut Chance) {
         }
     }
     if times > 1 {
-        stage("every number of 32 bits");
+        table.stage("every number of 32 bits");
         for (name, every) in entries::EVERY_NUMBER {
             let which = ALL.iter().position(|e| e.name == *name).expect("an entry's name");
             for h in i32::MIN..=i32::MAX {
@@ -131,11 +161,11 @@ fn compare(times: usize, chance: &mut Chance) {
         }
     }
 
-    stage("the empty net, and no array at all");
+    table.stage("the empty net, and no array at all");
     table.on(&Lent::default(), chance);
     nets::counts_beside(&Lent::default(), chance, &mut |net, chance| table.on(net, chance));
 
-    stage("all sound nets of two and of four triangles");
+    table.stage("all sound nets of two and of four triangles");
     let mut small = vec![];
     for triangles in if times == 0 { vec![2] } else { vec![2, 4] } {
         let before = small.len();
@@ -144,28 +174,31 @@ fn compare(times: usize, chance: &mut Chance) {
     }
     for net in &small {
         table.on(net, chance);
+        let mut roomy = net.clone();
+        nets::add_room(&mut roomy, chance.below(2), 2 + chance.below(2), chance);
+        table.on_all(&roomy, chance);
     }
 
-    stage("random sound nets, with their counts moved and their room cut");
+    table.stage("random sound nets, with their counts moved and their room cut");
     let mut random = vec![];
     for i in 0..(times * 2000).max(3) {
         let net = nets::random_sound(chance);
         table.on(&net, chance);
         if i % 8 == 0 {
-            nets::counts_beside(&net, chance, &mut |net, chance| table.on(net, chance));
-            nets::room_from_none(&net, chance, &mut |net, chance| table.on(net, chance));
+            nets::counts_beside(&net, chance, &mut |net, chance| table.on_with(net, few, chance));
+            nets::room_from_none(&net, chance, &mut |net, chance| table.on_with(net, few, chance));
         }
         if i % 16 == 0 {
             random.push(net);
         }
     }
 
-    stage("damaged nets");
+    table.stage("damaged nets");
     for net in small.iter().step_by(if times > 1 { 1 } else { 40 }).chain(random.iter().take(times * 20)) {
-        nets::damaged(net, chance, &mut |net, chance| table.on(net, chance));
+        nets::damaged(net, chance, &mut |net, chance| table.on_with(net, few, chance));
     }
 
-    stage("large nets");
+    table.stage("large nets");
     let sizes: &[usize] = match times {
         0 => &[100],
         1 => &[1_000, 100_000],
@@ -187,8 +220,8 @@ fn compare(times: usize, chance: &mut Chance) {
     }
 
     if times > 0 {
-        stage("the bounds themselves");
-        bounds(table, chance);
+        table.stage("the bounds themselves");
+        bounds(table, times > 1, chance);
     }
     report(table);
 }
@@ -202,11 +235,19 @@ fn pinched_with(vertices: usize, lent: usize) -> Lent {
     net
 }
 
-/// Arrays as long as the bounds and a row longer, counts at and beside them.
-fn bounds(table: &mut Table, chance: &mut Chance) {
+/// Arrays as long as the bounds and a row longer, counts at and beside them; every entry on each, or one by turns.
+fn bounds(table: &mut Table, every: bool, chance: &mut Chance) {
+    let entries: Vec<usize> = (0..ALL.len()).filter(|&i| ALL[i].on_nets).collect();
+    let mut turn = 0;
+    let mut on = |net: &Lent, chance: &mut Chance| {
+        for _ in 0..if every { entries.len() } else { 1 } {
+            table.one(entries[turn % entries.len()], net, 1, chance);
+            turn += 1;
+        }
+    };
     for vertices in [999_998, 999_999, 1_000_000] {
-        for _ in 0..3 {
-            table.on_with(&pinched_with(vertices, 1_000_002), 3, chance);
+        for _ in 0..entries.len() {
+            on(&pinched_with(vertices, 1_000_002), chance);
         }
     }
     let mut net = Lent::default();
@@ -221,7 +262,7 @@ fn bounds(table: &mut Table, chance: &mut Chance) {
                 net.used.properties = properties;
                 net.used.num_prop = num_prop;
                 if (halfedges, vertices) == (3_000_000, 1_000_000) || num_prop == 0 && properties == 0 {
-                    table.on_with(&net, 1, chance);
+                    on(&net, chance);
                 }
             }
         }

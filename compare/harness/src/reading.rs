@@ -172,8 +172,8 @@ pub fn caught<T>(f: impl FnOnce() -> T) -> Option<T> {
 /// Runs the original on the rows in use. Where it is done, what it leaves is written back; else nothing is.
 pub fn run<T>(l: &mut Lent, f: impl FnOnce(&mut ManifoldImpl) -> T) -> Ran<T> {
     let mut mesh = mesh_of(l);
-    // far more moves than any walk that ends makes
-    original::moves::allow(1_000_000 + 100 * l.used.halfedges as u64);
+    // more moves than these make where every walk ends: one passes a half-edge at most once
+    original::moves::allow(100 + 10 * l.used.halfedges as u64);
     let ended = caught(|| f(&mut mesh));
     original::moves::allow(u64::MAX);
     if mesh.halfedge.len() > 3 * triangle_capacity(l) || mesh.vert_pos.len() > vertex_capacity(l) {

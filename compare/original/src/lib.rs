@@ -51,3 +51,9 @@ pub mod edge_op {
         }
     }
 }
+
+/// Runs f where rayon has one thread, f among what it runs.
+#[cfg(feature = "parallel")]
+pub fn on_one_thread<T: Send>(f: impl FnOnce() -> T + Send) -> T {
+    rayon::ThreadPoolBuilder::new().num_threads(1).build().expect("a thread").install(f)
+}
