@@ -18,7 +18,7 @@ use Rattle.rows.specs.Triples.{lent-triples, put-triple}
 use Rattle.net.specs.Counts.{most-vertices}
 use Rattle.net.specs.Sound.{start-vertex, partner, LiveRow, InOrder, Live}
 use Rattle.net.proofs.Sound.{live-row, next-live, partner-live, pair-involution}
-use Rattle.steps.specs.Steps.{Middle, begin}
+use Rattle.steps.specs.Steps.{Middle, running, Going, begin}
 use Rattle.steps.proofs.Entries.{live-paired}
 use Rattle.folds.specs.Folds.{nan, most, lose, lose-folded, has-pair, joined, join, clear, take-out, fold-at, fold}
 use Rattle.foldsound.specs.Removed.{SameOpposite, Former, Latter, Outer, TakenOut, Removed, both, only-former, only-latter, not-folded}
@@ -239,6 +239,10 @@ module _ (H N : ℕ) (rows : List ℤ) (thirds : H % 3 ≡ 0) (lent : H ≤ lent
           rows-kept = refl;
           positions-kept = refl;
         })))
+
+    -- it goes on, and no vertex comes or goes
+    pub fold-goes : after .run ≡ running N Going
+    fold-goes = by-test folded (λ t. rw (fold-all, t)) (λ t. rw (fold-all, t))
 
     -- and rows in order stay so
     pub fold-in-order : (h : ℕ) → h < H → InOrder H N (after .halfedges) h

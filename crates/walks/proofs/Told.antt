@@ -73,11 +73,11 @@ module _ (v h : ℕ) (rows : List ℤ) where
       other-row start start (next h) (next g) (pos v) _ (λ e. n (next-inj g h e)) ∙ other-column start end h (next g) (pos v) rows (λ e. omega arith)
 
 module _ (H N : ℕ) (rows : List ℤ) (thirds : H % 3 ≡ 0) (lent : H ≤ lent-halfedges rows) (in-order : (h : ℕ) → h < H → InOrder H N rows h) where
-  move-live : {h : ℕ} → Live H rows h → Live H rows (move rows h)
+  pub move-live : {h : ℕ} → Live H rows h → Live H rows (move rows h)
   move-live l = partner-live H N rows thirds in-order (next-live H N rows thirds in-order l)
 
   -- a move is one of those that come round
-  moving : Turning H (Live H rows) (move rows)
+  pub moving : Turning H (Live H rows) (move rows)
   moving = record {
     dec = live-dec H rows;
     below = λ h l. l .in-use;
@@ -118,13 +118,13 @@ module _ (H N : ℕ) (rows : List ℤ) (thirds : H % 3 ≡ 0) (lent : H ≤ lent
       reach-yes to H (s .0) here l (omega (arith, s .1, p .le)) (s .2 ∙ r .1)
 
   -- row g after the walk from `here`: on the way and updated, or not and as it was
-  abbrev AsTold : ℕ → ℕ → ℕ → List ℤ → List ℤ → ℕ → Type 0
+  abbrev pub AsTold : ℕ → ℕ → ℕ → List ℤ → List ℤ → ℕ → Type 0
   AsTold v here to l after g =
       (OnWay rows here to g × ((endOf after g ≡ pos v) × (startOf after (next g) ≡ pos v)))
       ⊎ ((OnWay rows here to g → ⊥) × ((endOf after g ≡ endOf l g) × (startOf after (next g) ≡ startOf l (next g))))
 
   -- the way from a half-edge and from its move
-  way-on : {here to g : ℕ} → (here ≡ to → ⊥) → OnWay rows (move rows here) to g → OnWay rows here to g
+  pub way-on : {here to g : ℕ} → (here ≡ to → ⊥) → OnWay rows (move rows here) to g → OnWay rows here to g
   way-on {here} {to} {g} m w = record { moves = suc (w .moves); there = iter-suc (move rows) (w .moves) here ∙ w .there; before = first }
     where
       first : (k : ℕ) → k ≤ suc (w .moves) → iter (move rows) k here ≡ to → ⊥
@@ -173,6 +173,25 @@ module _ (H N : ℕ) (rows : List ℤ) (thirds : H % 3 ≡ 0) (lent : H ≤ lent
           by-row (no q) =
               inr (λ x. w .0 (way-back q x), (w .1 .0 ∙ unmoved-end v here l g q, w .1 .1 ∙ unmoved-start v here l g q))
 
+  -- the walk that writes comes to its end exactly when the one that does not
+  walk-there : (v to n here : ℕ) (l : List ℤ) → Live H rows here → ((g : ℕ) → pairOf l g ≡ pairOf rows g) → walk H v to n l here .there ≡ reaches H to rows n here
+  unfolding walk reaches
+  walk-there v to zero here l a same = refl
+  walk-there v to (suc n) here l a same =
+      let pairs : (i : ℕ) → pairOf (moved v here l) i ≡ pairOf rows i = λ i. other-moved v here l pair (λ q. omega arith) (λ q. omega arith) i ∙ same i in
+      by-test (eqb here to)
+      (λ t. rw t)
+      (λ t. rw (t, goes (moved v here l) pairs a, goes rows (λ g. refl) a) (walk-there v to n (move rows here) (moved v here l) (move-live a) pairs))
+
+  -- where it does, what it leaves of each row
+  pub walk-told : (v from to : ℕ) (l : List ℤ) → Live H rows from → ((g : ℕ) → pairOf l g ≡ pairOf rows g) → length l ≡ length rows → walk H v to H l from .there ≡ true →
+      Reached rows from to × ((g : ℕ) → AsTold v from to l (walk H v to H l from .rows) g)
+  walk-told v from to l a same len there =
+      let r = reach-was to H from a (sym (walk-there v to H from l a same) ∙ there) in
+      let p = period moving from a in
+      let s = soon moving from p (r .0) in
+      (r, told v to H (s .0) from l a same len (omega (arith, s .1, p .le)) (s .2 ∙ r .1))
+
 module _ (c : Counts) (n : Net) (vertex first last : ℤ) where
   abbrev H : ℕ
   H = c .halfedges
@@ -220,9 +239,8 @@ module _ (c : Counts) (n : Net) (vertex first last : ℤ) where
     pub update-updated : Reached (n .halfedges) a b → Updated H v a b (n .halfedges) (updateVert c n vertex first last .1)
     unfolding updateAt
     update-updated r =
-        let p = period (moving H (c .vertices) (n .halfedges) thirds lent (sound .in-order)) a a-live in
-        let s = soon (moving H (c .vertices) (n .halfedges) thirds lent (sound .in-order)) a p (r .0) in
-        let all = told H (c .vertices) (n .halfedges) thirds lent (sound .in-order) v b H (s .0) a (n .halfedges) a-live (λ g. refl) refl (omega (arith, s .1, p .le)) (s .2 ∙ r .1) in
+        let there = walk-there H (c .vertices) (n .halfedges) thirds lent (sound .in-order) v b H a (n .halfedges) a-live (λ g. refl) ∙ reached-yes r in
+        let all = walk-told H (c .vertices) (n .halfedges) thirds lent (sound .in-order) v a b (n .halfedges) a-live (λ g. refl) refl there .1 in
         rw (comes-to, reached-yes r) (record {
           ends = λ g w. ⊎-elim (λ t. t .1 .0) (λ t. absurd (t .0 w)) (all g);
           starts = λ g w. ⊎-elim (λ t. t .1 .1) (λ t. absurd (t .0 w)) (all g);

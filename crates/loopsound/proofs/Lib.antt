@@ -1,0 +1,4 @@
+pub mod Ways
+pub mod Crossed
+pub mod Steps
+pub mod Told

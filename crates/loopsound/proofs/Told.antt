@@ -1,0 +1,111 @@
+-- A sound net stays sound whenever form_loop is done.
+use mathlib.Core.Path.{_≡_, refl, sym, _∙_}
+use mathlib.Core.Bool.{true, false, true≢false, _&&_}
+use mathlib.Core.List.{List, [], _∷_}
+use Prim.Native.Nat.{ℕ, _+_, _≤_}
+use native.Mathlib.Omega.{arith}
+use lib.IntN.{ℤ, pos}
+use lib.ListN.{length}
+use Rattle.answers.specs.Answers.{whole, done}
+use Rattle.answers.proofs.Laws.{numbers-differ, values-agree}
+use Rattle.laws.proofs.Integers.{from-zero, pos-inj}
+use Rattle.laws.proofs.Tests.{by-test, and2}
+use Rattle.numbers.specs.Numbers.{Named, at, nothing, names}
+use Rattle.numbers.proofs.Names.{names-below}
+use Rattle.rows.specs.Halfedges.{pairOf, is-paired}
+use Rattle.net.specs.declared.Counts.{Counts}
+use Rattle.net.specs.Net.{Net, net}
+use Rattle.net.specs.Counts.{spare-holds, Shaped, triangle-capacity-over, vertex-capacity-over, property-capacity-over}
+use Rattle.net.specs.Sound.{Live, Sound}
+use Rattle.net.proofs.Shape.{shaped-true, capacities, within}
+use Rattle.soundness.specs.Check.{sound-or, checkNet}
+use Rattle.soundness.specs.Order.{least-out}
+use Rattle.soundness.proofs.Told.{check-sound}
+use Rattle.splitting.specs.Told.{with-vertices}
+use Rattle.pairing.specs.Pairing.{paired}
+use Rattle.steps.specs.declared.How.{How}
+use Rattle.steps.specs.declared.How.the-variants as W
+use Rattle.steps.specs.Steps.{Middle, refused, is-refused, Going, begin, how-said}
+use Rattle.loops.specs.Loops.{loop-at}
+use Rattle.loops.specs.FormLoop.{Left, formAt, formNamed, formLoop}
+use Rattle.loops.proofs.Kept.{frame-loop}
+use Rattle.loopsound.proofs.Steps.{loop-left, loop-in-order}
+
+-- done says that the steps went on, and how many vertices are in use
+said-done : (u : ℕ) (w : How) (k : ℕ) → how-said u w ≡ done (whole (pos k) ∷ []) → (is-refused w ≡ false) × (u ≡ k)
+said-done u W.Going k e = (refl, let v = values-agree e in let q : pos u ≡ pos k = cc in pos-inj q)
+said-done u W.NoRoom k e = numbers-differ e (λ z. omega arith)
+said-done u W.Stopped k e = numbers-differ e (λ z. omega arith)
+
+module _ (c : Counts) (n : Net) (sound : Sound c n) (saved : List ℤ) (held : List ℕ) (k : ℕ) where
+  abbrev H : ℕ
+  H = c .halfedges
+
+  abbrev N : ℕ
+  N = c .vertices
+
+  abbrev rows : List ℤ
+  rows = n .halfedges
+
+  abbrev capacity : ℕ
+  capacity = vertex-capacity-over (n .positions)
+
+  -- where k vertices are said to be in use, what is left is sound with so many
+  abbrev Good : Left → Type 0
+  Good o = o .said ≡ done (whole (pos k) ∷ []) → Sound (with-vertices c k) (net (o .halfedges) (o .positions) (n .normals) (n .references) (n .properties))
+
+  shaped-with : (h : List ℤ) (p : List ℕ) → length h ≡ length rows → length p ≡ length (n .positions) → k ≤ capacity → Shaped (with-vertices c k) (net h p (n .normals) (n .references) (n .properties))
+  unfolding triangle-capacity-over vertex-capacity-over property-capacity-over
+  shaped-with h p eh ep room = record {
+    thirds = sound .shaped .thirds;
+    halfedges-fit = rw eh (sound .shaped .halfedges-fit);
+    vertices-fit = rw ep room;
+    num-prop-fits = sound .shaped .num-prop-fits;
+    properties-fit = sound .shaped .properties-fit;
+    references-fit = sound .shaped .references-fit;
+    normals-fit = sound .shaped .normals-fit;
+  }
+
+  module _ (a b : ℕ) (la : Live H rows a) (lb : Live H rows b) where
+    abbrev out : Middle
+    out = loop-at H capacity a b (begin rows (n .positions) N)
+
+    sound-out : refused out ≡ false → out .run .vertices ≡ k → Sound (with-vertices c k) (net (out .halfedges) (out .positions) (n .normals) (n .references) (n .properties))
+    sound-out t u =
+        let w = within c n (sound .shaped) in
+        let z = capacities c n in
+        let f = frame-loop H capacity a b (begin rows (n .positions) N) (la .in-use) (lb .in-use) (w .halfedges-thirds) (w .halfedges-lent) (sound .shaped .vertices-fit) (z .vertices-lent) in
+        let v = loop-left H N capacity rows (n .positions) (w .halfedges-thirds) (w .halfedges-lent) (sound .in-order) (z .vertices-lent) (z .vertices-most) (sound .shaped .vertices-fit) a b la lb t in
+        let is-k : k ≡ N + 2 = sym u ∙ v .0 in
+        record {
+          shaped = shaped-with (out .halfedges) (out .positions) (f .rows-lent) (f .positions-lent) (rw is-k (v .1));
+          in-order = rw is-k (loop-in-order H N capacity rows (n .positions) (w .halfedges-thirds) (w .halfedges-lent) (sound .in-order) (z .vertices-lent) (z .vertices-most) (sound .shaped .vertices-fit) a b la lb t);
+        }
+
+    at-two : Good (formAt H N capacity a b rows (n .positions) saved held)
+    unfolding formAt
+    at-two e =
+        by-test (refused out)
+        (λ t. absurd (true≢false (sym t ∙ said-done (out .run .vertices) (out .run .how) k (rw t at e) .0)))
+        (λ t. rw t (sound-out t (said-done (out .run .vertices) (out .run .how) k (rw t at e) .1)))
+
+  -- whenever form_loop is done: with the rows and positions that it leaves, and the vertices that it says are in use
+  pub form-sound : (first second : ℤ) →
+      formLoop c n saved held first second .said ≡ done (whole (pos k) ∷ []) →
+      Sound (with-vertices c k) (net (formLoop c n saved held first second .halfedges) (formLoop c n saved held first second .positions) (n .normals) (n .references) (n .properties))
+  unfolding formLoop formNamed checkNet
+  form-sound first second =
+      let checked : sound-or (least-out H N rows) ≡ done [] = rw (shaped-true c n (sound .shaped)) at (check-sound c n .1 sound) in
+      rw (shaped-true c n (sound .shaped), checked)
+      (by-test (spare-holds c saved held) (λ t. rw t (go (names first H) refl (names second H) refl)) (λ t. rw t (λ e. numbers-differ e (λ z. omega arith))))
+    where
+      live : (z : ℤ) (h : ℕ) → names z H ≡ at h → is-paired rows h ≡ true → Live H rows h
+      live z h t u = record { in-use = names-below z H t; paired = rw (from-zero (pairOf rows h) u) }
+
+      go : (v : Named) → names first H ≡ v → (w : Named) → names second H ≡ w → Good (formNamed H N rows (n .positions) saved held v w)
+      go nothing s w t = λ e. numbers-differ e (λ z. omega arith)
+      go (at a) s nothing t = λ e. numbers-differ e (λ z. omega arith)
+      go (at a) s (at b) t =
+          by-test (is-paired rows a && is-paired rows b)
+          (λ u. let p = and2 (is-paired rows a) (is-paired rows b) u in rw u (at-two a b (live first a s (p .0)) (live second b t (p .1))))
+          (λ u. rw u (λ e. numbers-differ e (λ z. omega arith)))

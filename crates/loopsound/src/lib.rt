@@ -1,0 +1,1 @@
+// form_loop keeps a sound net sound. There is no code here.
