@@ -1,14 +1,12 @@
 -- Fans of rows whose every pair of 0 or more is in 0..H and points back. The half-edges that meet no row without pair, however often
 -- they turn, are permuted by turning, so the laws of turning hold of them; and H turns tell which they are.
 use mathlib.Core.Path.{_≡_, refl, sym, ap, _∙_, subst}
-use mathlib.Core.Bool.{true, false, true≢false}
+use mathlib.Core.Bool.{true}
 use mathlib.Core.List.{List}
-use Prim.Native.Nat.{ℕ, zero, suc, _-_, _≤_, _<_}
+use Prim.Native.Nat.{ℕ, zero, suc, _≤_, _<_}
 use native.Mathlib.Omega.{arith}
 use native.Mathlib.Decide.{decLt}
-use borrow.Author.Tests.{le-leb}
-use lib.IntN.{ℤ, pos, negsuc, natAbs, pos-ne-negsuc}
-use lib.Signed.{leZ}
+use lib.IntN.{ℤ, natAbs}
 use Rattle.laws.proofs.Tests.{by-test, not-both}
 use Rattle.numbers.proofs.NextLaws.{next-in, next-inj}
 use Rattle.rows.specs.Halfedges.{pairOf, is-paired}
@@ -16,36 +14,10 @@ use Rattle.net.specs.Sound.{partner, Paired, turn}
 use Rattle.turning.specs.Fan.{iter, Turning}
 use Rattle.turning.proofs.Orbit.{iter-suc}
 use Rattle.turning.proofs.Pigeon.{pigeon}
-use Rattle.owners.specs.Words.{Unpaired}
 use Rattle.owners.specs.Tests.{closes}
 use Rattle.owners.specs.Scan.{Back}
 use Rattle.owners.proofs.Below.{all-yes, all-true}
-
--- a number of 0 or more, by its test
-pub counts-yes : (z : ℤ) → leZ (pos 0) z ≡ true → z ≡ pos (natAbs z)
-counts-yes (pos n) e = refl
-counts-yes (negsuc n) e = absurd (true≢false (sym e))
-
-pub counts-true : (z : ℤ) → z ≡ pos (natAbs z) → leZ (pos 0) z ≡ true
-counts-true (pos n) e = le-leb 0 n (omega arith)
-counts-true (negsuc n) e = absurd (pos-ne-negsuc _ _ (sym e))
-
-counts-no : (z : ℤ) → leZ (pos 0) z ≡ false → (k : ℕ) × (z ≡ negsuc k)
-counts-no (pos n) e = not-both (leZ (pos 0) (pos n)) (le-leb 0 n (omega arith)) e
-counts-no (negsuc n) e = (n, refl)
-
-module _ (rows : List ℤ) (h : ℕ) where
-  pub paired-yes : is-paired rows h ≡ true → Paired rows h
-  paired-yes e = counts-yes (pairOf rows h) e
-
-  pub paired-true : Paired rows h → is-paired rows h ≡ true
-  paired-true p = counts-true (pairOf rows h) p
-
-  pub paired-no : is-paired rows h ≡ false → Unpaired rows h
-  paired-no e = counts-no (pairOf rows h) e
-
-  pub unpaired-not : Unpaired rows h → Paired rows h → ⊥
-  unpaired-not u p = pos-ne-negsuc _ _ (sym p ∙ u .1)
+use Rattle.owners.proofs.Points.{paired-yes, paired-true}
 
 -- in use, and no row without pair is met
 pub record Closed (H : ℕ) (rows : List ℤ) (h : ℕ) : Type 0 where

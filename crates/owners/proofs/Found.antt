@@ -1,19 +1,24 @@
--- What the scan past the checks comes to, by the tests that it makes; and the work buffer, cleared before the walks and after them.
-use mathlib.Core.Path.{_≡_, refl, ap, _∙_}
-use mathlib.Core.Bool.{true, false}
+-- Whether there are owners, and what the scan past the checks comes to; and the work buffer, cleared before the walks and after them.
+use mathlib.Core.Path.{_≡_, refl, sym, ap, _∙_}
+use mathlib.Core.Bool.{Bool, true, false, not}
 use mathlib.Core.List.{List, [], _∷_, _++_}
 use Prim.Native.Nat.{ℕ, _-_, _<_}
+use mathlib.Core.Logic.{⊎-elim}
 use native.Mathlib.Omega.{arith}
+use native.Mathlib.Decide.{ℕ-discrete}
+use borrow.Author.Tests.{eq-eqb}
 use lib.Dec.{eqb}
 use lib.IntN.{ℤ, pos}
 use lib.ListN.{length, getD, drop, replicate, length-replicate, getD-replicate, List·getD-append}
 use lib.Seq.{drop-at}
+use Rattle.laws.proofs.Tests.{by-test, not-both, is-false, or-right}
 use Rattle.answers.specs.Answers.{whole, done, no-owners}
 use Rattle.owners.specs.declared.Eligible.{Eligible}
-use Rattle.owners.specs.Tests.{all-below, those-below, points-back, closes-if, owns, has-owners, owners}
-use Rattle.owners.specs.Scan.{outcome, cleared, listed, scan}
-use Rattle.owners.specs.Marks.{Scanned}
-use Rattle.owners.proofs.Below.{those-same}
+use Rattle.owners.specs.Tests.{all-below, those-below, points-back, met-or-back, owns, has-owners, owners}
+use Rattle.owners.specs.Scan.{outcome, cleared, listed, scan, InUse, Back}
+use Rattle.owners.specs.Marks.{Left, Scanned, Owned}
+use Rattle.owners.proofs.Below.{all-yes, all-true, all-stop, all-no, those-same}
+use Rattle.owners.proofs.Points.{back-yes}
 
 module _ (n : ℕ) (work : List ℕ) where
   pub cleared-zero : (k : ℕ) → k < n → getD (cleared n work) k 0 ≡ 0
@@ -25,17 +30,47 @@ module _ (n : ℕ) (work : List ℕ) where
   cleared-again w w' e q =
       q ∙ ap (λ (t : List ℕ). replicate (n - 0) 0 ++ t) (e ∙ drop-at (replicate (n - 0) 0) (drop n work) n (omega (arith, length-replicate {A = ℕ} (n - 0) 0)))
 
+-- ---- whether there are owners, from what the walks and the last pass tell
+module _ (e : Eligible) (H : ℕ) (rows : List ℤ) (U : InUse H rows) {work work' : List ℕ} {r : Bool} (L : Left H rows work work' r) (S : Back H rows → Scanned e H rows work' r) where
+  astray : all-below (points-back H rows) H ≡ false → Owned e H rows work work' false
+  unfolding has-owners
+  astray t = record { told = rw t; kept = L .kept; beyond = L .beyond; owners-are = λ q. not-both false q refl }
+
+  pub no-owners-met : r ≡ false → Owned e H rows work work' false
+  unfolding has-owners
+  no-owners-met q =
+      by-test (all-below (points-back H rows) H)
+      (λ a. record { told = rw (a, ← S (back-yes H rows U a) .told, q); kept = L .kept; beyond = L .beyond; owners-are = λ q. not-both false q refl })
+      astray
+
+  module _ (z : (g : ℕ) → g < H → getD work g 0 ≡ 0) (q : r ≡ true) where
+    each-back : all-below (met-or-back H rows work') H ≡ true → (k : ℕ) → k < H → points-back H rows k ≡ true
+    each-back t k l = elim (ℕ-discrete (getD work' k 0) 0) [
+      | yes y ↦ rw (eq-eqb (getD work' k 0) 0 y) at (all-yes (met-or-back H rows work') H t k l)
+      | no n ↦ ⊎-elim (λ m. absurd (m (z k l))) (λ b. b) (L .back q k l n)
+    ]
+
+    pub owners-by : (t : Bool) → t ≡ all-below (met-or-back H rows work') H → Owned e H rows work work' t
+    unfolding has-owners
+    owners-by true y =
+        let a = all-true (points-back H rows) H (each-back (sym y)) in
+        let s = S (back-yes H rows U a) in
+        record { told = rw (a, ← s .told, q); kept = L .kept; beyond = L .beyond; owners-are = λ x. s .owners-are q }
+    owners-by false y = astray (out (all-no (met-or-back H rows work') H (sym y)))
+      where
+        out : (k : ℕ) × (k < H) × (met-or-back H rows work' k ≡ false) → all-below (points-back H rows) H ≡ false
+        out s =
+            all-stop (points-back H rows) H (s .0) (s .1)
+            (is-false (points-back H rows (s .0)) (λ b. not-both (met-or-back H rows work' (s .0)) (or-right (not (eqb (getD work' (s .0) 0) 0)) (points-back H rows (s .0)) b) (s .2)))
+
+-- ---- the scan past the checks
 module _ (e : Eligible) (H : ℕ) (rows : List ℤ) (work list : List ℕ) where
-  pub not-back : all-below (points-back H rows) H ≡ false → scan e H rows work list ≡ outcome no-owners (cleared H work) list
-  unfolding scan has-owners
-  not-back t = rw t
+  pub none-found : has-owners e H rows ≡ false → scan e H rows work list ≡ outcome no-owners (cleared H work) list
+  unfolding scan
+  none-found t = rw t
 
-  pub not-closed : all-below (points-back H rows) H ≡ true → all-below (closes-if e H rows) H ≡ false → scan e H rows work list ≡ outcome no-owners (cleared H work) list
-  unfolding scan has-owners
-  not-closed a t = rw (a, t)
-
-  pub all-found : (w : List ℕ) → all-below (points-back H rows) H ≡ true → Scanned e H rows (cleared H work) w true
+  pub all-found : (w : List ℕ) → Owned e H rows (cleared H work) w true
       → scan e H rows work list ≡ outcome (done (whole (pos (length (those-below (λ g. eqb (getD w g 0) 2) H))) ∷ [])) (cleared H w) (listed (those-below (λ g. eqb (getD w g 0) 2) H) list)
-  unfolding scan has-owners owners
-  all-found w a s =
-      rw (a, ← s .told, those-same (λ g. eqb (getD w g 0) 2) (owns e H rows) H (s .owners-are refl), cleared-again H work w (cleared H w) (s .beyond) refl)
+  unfolding scan owners
+  all-found w s =
+      rw (← s .told, those-same (λ g. eqb (getD w g 0) 2) (owns e H rows) H (s .owners-are refl), cleared-again H work w (cleared H w) (s .beyond) refl)

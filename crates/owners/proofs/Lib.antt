@@ -1,5 +1,7 @@
 pub mod Below
+pub mod Points
 pub mod Fan
+pub mod Leaving
 pub mod Walking
 pub mod Scanning
 pub mod Right

@@ -1,25 +1,23 @@
 -- The tests of the owner scan hold exactly when its words do.
-use mathlib.Core.Path.{_≡_, refl, sym, ap, _∙_}
+use mathlib.Core.Path.{_≡_, refl}
 use mathlib.Core.Bool.{Bool, true, false, _||_, not}
 use mathlib.Core.List.{List}
 use mathlib.Core.Logic.{_⊎_, inl, inr}
 use Prim.Native.Nat.{ℕ, _<_}
-use borrow.Author.Tests.{eq-eqb, eqb-true}
-use lib.IntN.{ℤ, pos, natAbs}
+use lib.IntN.{ℤ}
 use Rattle.laws.proofs.Tests.{by-test, and2, both2, not-both, is-false}
-use Rattle.numbers.specs.Numbers.{Named, at, nothing, names}
-use Rattle.numbers.proofs.Names.{names-is, names-below, names-at}
-use Rattle.rows.specs.Halfedges.{startOf, endOf, pairOf, is-paired, is-started, is-ended}
-use Rattle.net.specs.Sound.{partner, Paired, turn}
+use Rattle.rows.specs.Halfedges.{startOf, endOf, is-paired, is-started, is-ended}
+use Rattle.net.specs.Sound.{Paired, turn}
 use Rattle.turning.specs.Fan.{iter}
 use Rattle.turning.proofs.Least.{Least, None, least}
 use Rattle.owners.specs.declared.Eligible.{Eligible}
 use Rattle.owners.specs.declared.Eligible.the-variants as E
 use Rattle.owners.specs.Words.{IsEligible, PointsBack, RunsOut, NoOwners, Owner}
-use Rattle.owners.specs.Tests.{all-below, eligible, is-back, back-by, points-back, closes, closes-if, owns, has-owners}
+use Rattle.owners.specs.Tests.{all-below, eligible, points-back, closes, closes-if, owns, has-owners}
 use Rattle.owners.specs.Scan.{InUse, Back}
 use Rattle.owners.proofs.Below.{all-yes, all-stop, all-no}
-use Rattle.owners.proofs.Fan.{Closed, counts-yes, counts-true, paired-yes, paired-true, paired-no, unpaired-not, closes-yes}
+use Rattle.owners.proofs.Points.{counts-yes, counts-true, paired-yes, paired-no, unpaired-not, points-yes, points-no, back-yes}
+use Rattle.owners.proofs.Fan.{Closed, closes-yes}
 use Rattle.owners.proofs.Scanning.{owns-eligible, owns-true, owns-leads}
 
 -- ---- start, or start and end, of 0 or more
@@ -34,44 +32,6 @@ module _ (rows : List ℤ) where
   unfolding eligible
   eligible-true E.Start h p = counts-true (startOf rows h) p
   eligible-true E.StartAndEnd h p = both2 (counts-true (startOf rows h) (p .0)) (counts-true (endOf rows h) (p .1))
-
--- ---- a pair that points back
-module _ (H : ℕ) (rows : List ℤ) where
-  back-at : (h p : ℕ) → (w : Named) → names (pairOf rows p) H ≡ w → is-back h w ≡ true → pairOf rows p ≡ pos h
-  back-at h p (at q) e t = names-is (pairOf rows p) H e ∙ ap pos (eqb-true q h t)
-  back-at h p nothing e t = not-both false t refl
-
-  partner-at : (h p : ℕ) → names (pairOf rows h) H ≡ at p → p ≡ partner rows h
-  partner-at h p e = sym (ap natAbs (names-is (pairOf rows h) H e))
-
-  pub points-yes : (h : ℕ) → points-back H rows h ≡ true → Paired rows h → PointsBack H rows h
-  unfolding points-back
-  points-yes h t p = go (names (pairOf rows h) H) refl t
-    where
-      go : (w : Named) → names (pairOf rows h) H ≡ w → back-by H rows h w ≡ true → PointsBack H rows h
-      go (at q) e t =
-          let z : q ≡ partner rows h = partner-at h q e in
-          (rw (← z) (names-below (pairOf rows h) H e), rw (← z) (back-at h q (names (pairOf rows q) H) refl t))
-      go nothing e t = not-both (not (is-paired rows h)) t (rw (paired-true rows h p))
-
-  pub points-true : (h : ℕ) → h < H → PointsBack H rows h → Paired rows h → points-back H rows h ≡ true
-  unfolding points-back
-  points-true h l b p =
-      rw (names-at (pairOf rows h) H (partner rows h) p (b .0), names-at (pairOf rows (partner rows h)) H h (b .1) l) (eq-eqb h h refl)
-
-  pub points-no : (h : ℕ) → h < H → points-back H rows h ≡ false → Paired rows h × (PointsBack H rows h → ⊥)
-  unfolding points-back
-  points-no h l t = (p, λ b. not-both (points-back H rows h) (points-true h l b p) t)
-    where
-      go : (w : Named) → names (pairOf rows h) H ≡ w → back-by H rows h w ≡ false → Paired rows h
-      go (at q) e t = rw (names-is (pairOf rows h) H e)
-      go nothing e t = paired-yes rows h (by-test (is-paired rows h) (λ u. u) (λ u. not-both (not (is-paired rows h)) (rw u) t))
-
-      p : Paired rows h
-      p = go (names (pairOf rows h) H) refl t
-
-  pub back-yes : InUse H rows → all-below (points-back H rows) H ≡ true → Back H rows
-  back-yes u t = record { in-use = u; back = λ h l p. points-yes h (all-yes (points-back H rows) H t h l) p }
 
 -- ---- a fan that runs out
 false-dec : (t : Bool) → Dec (t ≡ false)

@@ -4,12 +4,12 @@ use mathlib.Core.Path.{_≡_, refl, sym, _∙_, subst}
 use mathlib.Core.Bool.{Bool, true, false, not}
 use mathlib.Core.List.{List}
 use mathlib.Core.Logic.{inl, inr, _≢_}
-use Prim.Native.Nat.{ℕ, _+_, _-_, _≤_, _<_}
+use Prim.Native.Nat.{ℕ, _+_, _≤_, _<_}
 use native.Mathlib.Omega.{arith}
 use native.Mathlib.Decide.{ℕ-discrete, decLe}
 use borrow.Author.Tests.{eq-eqb, ne-eqb, leb-true, le-leb}
 use lib.IntN.{ℤ}
-use lib.ListN.{length, getD, drop}
+use lib.ListN.{getD}
 use Rattle.laws.proofs.Tests.{by-test, and2, both2, not-both}
 use Rattle.net.specs.Sound.{turn}
 use Rattle.turning.specs.Fan.{iter, Reach}
@@ -57,10 +57,7 @@ module _ (e : Eligible) (H : ℕ) (rows : List ℤ) where
         not-above-yes g h (subst (λ x. not-above e rows g x ≡ true) w (all-yes (λ k. not-above e rows g (iter (turn rows) k g)) H (a .1) (s .0) (omega arith))) q
 
 -- the half-edges below i are done
-pub record Scanning (e : Eligible) (H : ℕ) (rows : List ℤ) (work₀ work : List ℕ) (i : ℕ) : Type 0 where
-  pub upto : i ≤ H
-  pub kept : length work ≡ length work₀
-  pub beyond : drop H work ≡ drop H work₀
+pub record Scanning (e : Eligible) (H : ℕ) (rows : List ℤ) (work : List ℕ) (i : ℕ) : Type 0 where
   -- their fans, where they are eligible, close, and are marked; nothing else is
   pub closed : (h : ℕ) → h < i → eligible e rows h ≡ true → Closed H rows h
   pub marked : (h g : ℕ) → h < i → eligible e rows h ≡ true → Reach (turn rows) h g → getD work g 0 ≢ 0
@@ -69,11 +66,8 @@ pub record Scanning (e : Eligible) (H : ℕ) (rows : List ℤ) (work₀ work : L
   pub owned : (g : ℕ) → g < i → owns e H rows g ≡ true → getD work g 0 ≡ 2
   pub owner : (g : ℕ) → g < H → getD work g 0 ≡ 2 → (g < i) × (owns e H rows g ≡ true)
 
-pub scanning-begins : (e : Eligible) (H : ℕ) (rows : List ℤ) (work : List ℕ) → ((g : ℕ) → g < H → getD work g 0 ≡ 0) → Scanning e H rows work work 0
+pub scanning-begins : (e : Eligible) (H : ℕ) (rows : List ℤ) (work : List ℕ) → ((g : ℕ) → g < H → getD work g 0 ≡ 0) → Scanning e H rows work 0
 scanning-begins e H rows work z = record {
-  upto = omega arith;
-  kept = refl;
-  beyond = refl;
   closed = λ h l. absurd (omega arith);
   marked = λ h g l. absurd (omega arith);
   met = λ g l n. absurd (n (z g l));
@@ -81,16 +75,13 @@ scanning-begins e H rows work z = record {
   owner = λ g l q. absurd (omega (arith, z g l));
 }
 
-module _ (e : Eligible) (H : ℕ) (rows : List ℤ) (B : Back H rows) {work₀ work : List ℕ} {i : ℕ} (S : Scanning e H rows work₀ work i) (b : i < H) where
+module _ (e : Eligible) (H : ℕ) (rows : List ℤ) (B : Back H rows) {work : List ℕ} {i : ℕ} (S : Scanning e H rows work i) (b : i < H) where
   later : {P : ℕ → Type 0} → ((h : ℕ) → h < i → P h) → P i → (h : ℕ) → h < i + 1 → P h
   later {P} f p h l = elim (ℕ-discrete h i) [ yes q ↦ subst P (sym q) p | no q ↦ f h (omega arith) ]
 
   -- the same buffer, where i's fan is closed and marked and i owns nothing, or i is not eligible
-  passed : (eligible e rows i ≡ true → Closed H rows i) → ((g : ℕ) → eligible e rows i ≡ true → Reach (turn rows) i g → getD work g 0 ≢ 0) → (owns e H rows i ≡ true → ⊥) → Scanning e H rows work₀ work (i + 1)
+  passed : (eligible e rows i ≡ true → Closed H rows i) → ((g : ℕ) → eligible e rows i ≡ true → Reach (turn rows) i g → getD work g 0 ≢ 0) → (owns e H rows i ≡ true → ⊥) → Scanning e H rows work (i + 1)
   passed c m n = record {
-    upto = omega arith;
-    kept = S .kept;
-    beyond = S .beyond;
     closed = later {P = λ h. eligible e rows h ≡ true → Closed H rows h} (S .closed) c;
     marked = λ h g. later {P = λ h. eligible e rows h ≡ true → Reach (turn rows) h g → getD work g 0 ≢ 0} (λ h. S .marked h g) (m g) h;
     met = λ g l q. let s = S .met g l q in (s .0, omega (arith, s .1), s .2, s .3);
@@ -98,7 +89,7 @@ module _ (e : Eligible) (H : ℕ) (rows : List ℤ) (B : Back H rows) {work₀ w
     owner = λ g l q. let s = S .owner g l q in (omega (arith, s .0), s .1);
   }
 
-  pass-met : getD work i 0 ≢ 0 → Scanning e H rows work₀ work (i + 1)
+  pass-met : getD work i 0 ≢ 0 → Scanning e H rows work (i + 1)
   pass-met q =
       let s = S .met i b q in
       let c : Closed H rows (s .0) = S .closed (s .0) (s .1) (s .2) in
@@ -108,7 +99,7 @@ module _ (e : Eligible) (H : ℕ) (rows : List ℤ) (B : Back H rows) {work₀ w
       (λ g t r. S .marked (s .0) g (s .1) (s .2) (reach-trans (turn rows) (s .3) r))
       (λ t. let u : i ≤ s .0 = owns-leads e H rows B i d t (s .0) (reach-sym (fans H rows B) c (s .3)) (s .2) in let v : s .0 < i = s .1 in omega arith)
 
-  pass-other : eligible e rows i ≡ false → Scanning e H rows work₀ work (i + 1)
+  pass-other : eligible e rows i ≡ false → Scanning e H rows work (i + 1)
   pass-other q =
       passed
       (λ t. not-both (eligible e rows i) t q)
@@ -130,11 +121,8 @@ module _ (e : Eligible) (H : ℕ) (rows : List ℤ) (B : Back H rows) {work₀ w
       | no m ↦ absurd (new h (omega arith) q (reach-sym (fans H rows B) c r))
     ]
 
-    walked : Marked H rows i work work' true → Scanning e H rows work₀ work' (i + 1)
+    walked : Marked H rows i work work' true → Scanning e H rows work' (i + 1)
     walked M = record {
-      upto = omega arith;
-      kept = M .kept ∙ S .kept;
-      beyond = M .beyond ∙ S .beyond;
       closed = later {P = λ h. eligible e rows h ≡ true → Closed H rows h} (S .closed) (λ q. c);
       marked = λ h g. later {P = λ h. eligible e rows h ≡ true → Reach (turn rows) h g → getD work' g 0 ≢ 0} (λ h l q r y. S .marked h g l q r (sym (M .others refl g (apart c h g l q r)) ∙ y)) (λ q r. mine g r) h;
       met = λ g l q. elim (reach-dec (fans H rows B) i c g) [
@@ -160,35 +148,27 @@ module _ (e : Eligible) (H : ℕ) (rows : List ℤ) (B : Back H rows) {work₀ w
           | no y ↦ λ q. absurd (omega (arith, M .fan refl g y r))
         ]
 
-  by-way : (work' : List ℕ) → Stepped e H rows i work work' true → Scanning e H rows work₀ work' (i + 1)
+  by-way : (work' : List ℕ) → Stepped e H rows i work work' true → Scanning e H rows work' (i + 1)
   by-way work' (inl (inl q, s, r)) = rw s (pass-met q)
   by-way work' (inl (inr q, s, r)) = rw s (pass-other q)
   by-way work' (inr s) = walked (s .0) (s .1) work' (s .2)
 
-  pub scanning-on : {work' : List ℕ} {r : Bool} → Stepped e H rows i work work' r → r ≡ true → Scanning e H rows work₀ work' (i + 1)
+  pub scanning-on : {work' : List ℕ} {r : Bool} → Stepped e H rows i work work' r → r ≡ true → Scanning e H rows work' (i + 1)
   scanning-on {work'} {r} s q = by-way work' (rw q at s)
 
-  stopped : (work' : List ℕ) → Stepped e H rows i work work' false → Scanned e H rows work₀ work' false
+  stopped : (work' : List ℕ) → Stepped e H rows i work work' false → Scanned e H rows work' false
   stopped work' (inl s) = not-both false (s .2) refl
   stopped work' (inr s) = record {
     told = sym (all-stop (closes-if e H rows) H i b (rw (s .1, ← s .2 .told)));
-    kept = s .2 .kept ∙ S .kept;
-    beyond = s .2 .beyond ∙ S .beyond;
     owners-are = λ q. not-both false q refl;
   }
 
-  pub scanning-stops : {work' : List ℕ} {r : Bool} → Stepped e H rows i work work' r → r ≡ false → Scanned e H rows work₀ work' false
+  pub scanning-stops : {work' : List ℕ} {r : Bool} → Stepped e H rows i work work' r → r ≡ false → Scanned e H rows work' false
   scanning-stops {work'} {r} s q = stopped work' (rw q at s)
 
-  pub step-kept : {work' : List ℕ} {r : Bool} → Stepped e H rows i work work' r → length work' ≡ length work₀
-  step-kept (inl s) = rw (s .1) (S .kept)
-  step-kept (inr s) = s .2 .kept ∙ S .kept
-
-pub scanning-done : (e : Eligible) (H : ℕ) (rows : List ℤ) (B : Back H rows) {work₀ work : List ℕ} {i : ℕ} → Scanning e H rows work₀ work i → H ≤ i → Scanned e H rows work₀ work true
-scanning-done e H rows B {work₀} {work} {i} S m = record {
+pub scanning-done : (e : Eligible) (H : ℕ) (rows : List ℤ) (B : Back H rows) {work : List ℕ} {i : ℕ} → Scanning e H rows work i → H ≤ i → Scanned e H rows work true
+scanning-done e H rows B {work} {i} S m = record {
   told = sym (all-true (closes-if e H rows) H each);
-  kept = S .kept;
-  beyond = S .beyond;
   owners-are = λ q g l. by-test (owns e H rows g)
       (λ t. rw t (eq-eqb (getD work g 0) 2 (S .owned g (omega arith) t)))
       (λ t. rw t (ne-eqb (getD work g 0) 2 (λ y. not-both (owns e H rows g) (S .owner g l y .1) t)));

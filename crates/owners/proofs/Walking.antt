@@ -1,15 +1,16 @@
 -- The walk of one fan: what holds before each turn of the loop, where it begins, what a turn does, and what is left where it comes
--- home, where it meets a row without pair, and where its turns are spent, which cannot be.
+-- home, where it meets a row without pair, and, which cannot be where every pair points back, where a pair does not or its turns are
+-- spent.
 use mathlib.Core.Path.{_≡_, refl, sym, ap, _∙_, subst}
-use mathlib.Core.Bool.{true, false}
+use mathlib.Core.Bool.{Bool, true, false}
 use mathlib.Core.List.{List}
 use mathlib.Core.Logic.{_≢_}
 use Prim.Native.Nat.{ℕ, suc, _-_, _≤_, _<_}
 use native.Mathlib.Omega.{arith}
 use native.Mathlib.Decide.{ℕ-discrete}
 use lib.IntN.{ℤ, pos, natAbs}
-use lib.ListN.{length, getD, set, drop, length-set}
-use lib.Seq.{getD-set-same, getD-set-other, drop-set-lt}
+use lib.ListN.{length, getD, set}
+use lib.Seq.{getD-set-same, getD-set-other}
 use Rattle.laws.proofs.Tests.{by-test, not-both}
 use Rattle.numbers.specs.Next.{next}
 use Rattle.numbers.specs.Numbers.{at, nothing, names}
@@ -19,9 +20,11 @@ use Rattle.rows.specs.Halfedges.{pairOf}
 use Rattle.net.specs.Sound.{partner, Paired, turn}
 use Rattle.turning.specs.Fan.{iter, Reach}
 use Rattle.turning.proofs.Orbit.{Period, period, soon}
-use Rattle.owners.specs.Tests.{closes}
+use Rattle.owners.specs.Tests.{points-back, closes}
 use Rattle.owners.specs.Scan.{Back}
-use Rattle.owners.specs.Marks.{Marked}
+use Rattle.owners.specs.Marks.{Left, Marked}
+use Rattle.owners.proofs.Leaving.{Leaving, leaving-begins, leaving-stops, leaving-on, leaving-home}
+use Rattle.owners.proofs.Points.{points-true}
 use Rattle.owners.proofs.Fan.{iter-in, closed-by, closes-yes, closes-true, fans}
 
 -- k turns were made from i, to c; each half-edge come to is marked with 1, and none was i
@@ -30,8 +33,6 @@ pub record Walking (H : ℕ) (rows : List ℤ) (i : ℕ) (work₀ work : List �
   pub here : c ≡ iter (turn rows) k i
   pub paired : (j : ℕ) → j < k → Paired rows (iter (turn rows) j i)
   pub away : (j : ℕ) → 0 < j → j ≤ k → iter (turn rows) j i ≢ i
-  pub kept : length work ≡ length work₀
-  pub beyond : drop H work ≡ drop H work₀
   pub met : (j : ℕ) → 0 < j → j ≤ k → getD work (iter (turn rows) j i) 0 ≡ 1
   pub others : (g : ℕ) → ((j : ℕ) → 0 < j → j ≤ k → iter (turn rows) j i ≢ g) → getD work g 0 ≡ getD work₀ g 0
 
@@ -41,8 +42,6 @@ walking-begins H rows i work = record {
   here = refl;
   paired = λ j l. absurd (omega arith);
   away = λ j a b. absurd (omega arith);
-  kept = refl;
-  beyond = refl;
   met = λ j a b. absurd (omega arith);
   others = λ g q. refl;
 }
@@ -60,7 +59,7 @@ module _ (H : ℕ) (rows : List ℤ) (B : Back H rows) (i : ℕ) (l : i < H) {wo
 
   -- ---- a row with a pair
   module _ (p : ℕ) (e : names (pairOf rows c) H ≡ at p) where
-    pub next-in-use : next p < H
+    next-in-use : next p < H
     next-in-use = next-in p H (names-below (pairOf rows c) H e) (B .in-use .thirds)
 
     on : next p ≡ iter (turn rows) (suc k) i
@@ -72,16 +71,14 @@ module _ (H : ℕ) (rows : List ℤ) (B : Back H rows) (i : ℕ) (l : i < H) {wo
       | no q ↦ W .paired j (omega arith)
     ]
 
-    pub walking-on : k < H → H ≤ length work₀ → next p ≢ i → Walking H rows i work₀ (set work (next p) 1) (next p) (suc k)
+    pub walking-on : k < H → H ≤ length work → next p ≢ i → Walking H rows i work₀ (set work (next p) 1) (next p) (suc k)
     walking-on b long n = record {
       upto = b;
       here = on;
       paired = paired-so-far;
       away = λ j a m. elim (ℕ-discrete j (suc k)) [ yes q ↦ λ z. n (on ∙ ap (λ x. iter (turn rows) x i) (sym q) ∙ z) | no q ↦ W .away j a (omega arith) ];
-      kept = length-set work (next p) 1 ∙ W .kept;
-      beyond = drop-set-lt H work (next p) 1 next-in-use ∙ W .beyond;
       met = λ j a m. elim (ℕ-discrete (iter (turn rows) j i) (next p)) [
-        | yes q ↦ rw q (getD-set-same work (next p) 1 0 (omega (arith, next-in-use, W .kept)))
+        | yes q ↦ rw q (getD-set-same work (next p) 1 0 (omega (arith, next-in-use)))
         | no q ↦
             getD-set-other work (next p) (iter (turn rows) j i) 1 0 q
             ∙ W .met j a (elim (ℕ-discrete j (suc k)) [ yes z ↦ absurd (q (ap (λ x. iter (turn rows) x i) z ∙ sym on)) | no z ↦ omega arith ])
@@ -90,7 +87,7 @@ module _ (H : ℕ) (rows : List ℤ) (B : Back H rows) (i : ℕ) (l : i < H) {wo
     }
 
     -- ---- home again
-    module _ (b : k < H) (long : H ≤ length work₀) (h : next p ≡ i) where
+    module _ (b : k < H) (long : H ≤ length work) (h : next p ≡ i) where
       round : Period (turn rows) H i
       round = record {
         p = suc k;
@@ -118,12 +115,16 @@ module _ (H : ℕ) (rows : List ℤ) (B : Back H rows) (i : ℕ) (l : i < H) {wo
       pub walking-home : Marked H rows i work₀ (set work (next p) 2) true
       walking-home = rw h (record {
         told = sym (closes-true H rows B i (record { in-use = l; paired = all-paired }));
-        kept = length-set work i 2 ∙ W .kept;
-        beyond = drop-set-lt H work i 2 l ∙ W .beyond;
-        home = λ t. getD-set-same work i 2 0 (omega (arith, W .kept));
+        home = λ t. getD-set-same work i 2 0 (omega arith);
         fan = λ t g n r. getD-set-other work i g 2 0 n ∙ fan-marked g n r;
         others = λ t g q. getD-set-other work i g 2 0 (λ z. q (0, sym z)) ∙ W .others g (λ j a m z. q (j, z));
       })
+
+    -- ---- a pair that does not point back, which cannot be
+    pub walking-astray {ℓ} : {P : Type ℓ} → points-back H rows c ≡ false → P
+    walking-astray f =
+        let q = has-pair rows H c p e in
+        not-both (points-back H rows c) (points-true H rows c walking-in (B .back c walking-in q) q) f
 
   -- ---- a row without pair
   open-not : names (pairOf rows c) H ≡ nothing → Paired rows c → ⊥
@@ -133,8 +134,6 @@ module _ (H : ℕ) (rows : List ℤ) (B : Back H rows) (i : ℕ) (l : i < H) {wo
   pub walking-open : names (pairOf rows c) H ≡ nothing → Marked H rows i work₀ work false
   walking-open e = record {
     told = by-test (closes H rows i) (λ t. absurd (open-not e (subst (Paired rows) (sym (W .here)) (closes-yes H rows B i l t .paired k)))) sym;
-    kept = W .kept;
-    beyond = W .beyond;
     home = λ t. not-both false t refl;
     fan = λ t. not-both false t refl;
     others = λ t. not-both false t refl;
@@ -147,3 +146,46 @@ module _ (H : ℕ) (rows : List ℤ) (B : Back H rows) (i : ℕ) (l : i < H) {wo
       let R = period (fans H rows B) i C in
       let u : R .p ≤ H = R .le in
       absurd (W .away (R .p) (R .pos) (omega arith) (R .home))
+
+-- ---- the loop: what holds whatever the pairs are, and what holds where they point back, with `left` turns to go
+abbrev Walked : (H : ℕ) → List ℤ → ℕ → List ℕ → List ℕ → Bool → Type 0
+Walked H rows i work work' r = Left H rows work work' r × (Back H rows → Marked H rows i work work' r)
+
+pub record Walk (H : ℕ) (rows : List ℤ) (i : ℕ) (work₀ work : List ℕ) (c left : ℕ) : Type 0 where
+  pub upto : left ≤ H
+  pub leaving : Leaving H rows i work₀ work c
+  pub walking : Back H rows → Walking H rows i work₀ work c (H - left)
+
+pub walk-begins : (H : ℕ) (rows : List ℤ) (i : ℕ) (work : List ℕ) → i < H → Walk H rows i work work i H
+walk-begins H rows i work l = record {
+  upto = omega arith;
+  leaving = leaving-begins H rows i work l;
+  walking = λ B. let z : H - H ≡ 0 = omega arith in rw z (walking-begins H rows i work);
+}
+
+module _ {H : ℕ} {rows : List ℤ} {i : ℕ} (l : i < H) {work₀ work : List ℕ} {c left : ℕ} (W : Walk H rows i work₀ work c left) where
+  pub walk-open : names (pairOf rows c) H ≡ nothing → Walked H rows i work₀ work false
+  walk-open e = (leaving-stops (W .leaving), λ B. walking-open H rows B i l (W .walking B) e)
+
+  pub walk-out : left ≡ 0 → Walked H rows i work₀ work false
+  walk-out q = (leaving-stops (W .leaving), λ B. walking-out H rows B i l (W .walking B) (omega arith))
+
+  module _ {p : ℕ} (e : names (pairOf rows c) H ≡ at p) where
+    pub walk-astray : points-back H rows c ≡ false → Walked H rows i work₀ work false
+    walk-astray t = (leaving-stops (W .leaving), λ B. walking-astray H rows B i l (W .walking B) p e t)
+
+    module _ (b : 0 < left) (long : H ≤ length work₀) (t : points-back H rows c ≡ true) where
+      pub walk-home : next p ≡ i → Walked H rows i work₀ (set work (next p) 2) true
+      walk-home q = (
+        rw q (leaving-home (W .leaving) t l),
+        λ B. walking-home H rows B i l (W .walking B) p e (omega (arith, W .upto)) (omega (arith, W .leaving .kept)) q,
+      )
+
+      pub walk-on : next p < H → next p ≢ i → Walk H rows i work₀ (set work (next p) 1) (next p) (left - 1)
+      walk-on m n = record {
+        upto = omega (arith, W .upto);
+        leaving = leaving-on (W .leaving) t (next p) m;
+        walking = λ B.
+            let z : H - (left - 1) ≡ suc (H - left) = omega (arith, W .upto) in
+            rw z (walking-on H rows B i l (W .walking B) p e (omega (arith, W .upto)) (omega (arith, W .leaving .kept)) n);
+      }

@@ -59,12 +59,13 @@ ownersSaid O.Shape = shape
 ownersSaid O.ShortBuffer = short-buffer
 ownersSaid O.NoOwners = no-owners
 
--- what the scan needs of the rows in use: they are there, in thirds; and for its walks, every pair ≥ 0 is in 0..H and points back
+-- what the scan needs of the rows in use: they are there, in thirds
 pub record InUse (H : ℕ) (rows : List ℤ) : Type 0 where
   pub thirds : H % 3 ≡ 0
   pub lent : H ≤ lent-halfedges rows
   pub few : H ≤ most-halfedges
 
+-- besides, every pair ≥ 0 is in 0..H and points back
 pub record Back (H : ℕ) (rows : List ℤ) : Type 0 where
   pub in-use : InUse H rows
   pub back : (h : ℕ) → h < H → Paired rows h → PointsBack H rows h

@@ -4,6 +4,7 @@ use mathlib.Core.List.{List, [], _∷_, _++_}
 use Prim.Native.Nat.{ℕ, zero, suc}
 use lib.Dec.{eqb, leb}
 use lib.IntN.{ℤ}
+use lib.ListN.{getD}
 use Rattle.numbers.specs.Numbers.{Named, at, nothing, names}
 use Rattle.rows.specs.Halfedges.{pairOf, is-paired, is-started, is-ended}
 use Rattle.net.specs.Sound.{turn}
@@ -37,6 +38,10 @@ back-by H rows h nothing = not (is-paired rows h)
 
 unfoldable pub points-back : ℕ → List ℤ → ℕ → Bool
 points-back H rows h = back-by H rows h (names (pairOf rows h) H)
+
+-- h is marked, or its pair is below 0, or in 0..H and points back
+abbrev pub met-or-back : ℕ → List ℤ → List ℕ → ℕ → Bool
+met-or-back H rows work h = not (eqb (getD work h 0) 0) || points-back H rows h
 
 -- the rows met from h on by turning all have a pair: so it is for ever when it is for H turns
 unfoldable pub closes : ℕ → List ℤ → ℕ → Bool

@@ -1,18 +1,18 @@
-// The owner scan: the entry orbit_owners, for nets that need not be sound. It tests that every pair points back, walks each fan that has
-// an eligible half-edge once, from its least one, and lists those.
+// The owner scan: the entry orbit_owners, for nets that need not be sound. It walks each fan that has an eligible half-edge once, from
+// its least one, tests that every pair points back, the pairs on its way as it walks, and lists those least ones.
 ghost use mathlib.Core.Path.{_≡_};
 ghost use mathlib.Core.Bool.{true};
 ghost use Prim.Native.Nat.{ℕ, _<_, _≤_};
 ghost use lib.Dec.{eqb};
-ghost use lib.ListN.{length, getD, drop};
+ghost use lib.ListN.{length, getD};
 ghost use Rattle.numbers.specs.Next.{most-halfedges};
 ghost use Rattle.numbers.specs.Numbers.{halfedgeNumber, names};
 ghost use Rattle.rows.specs.Halfedges.{pairOf, lent-halfedges};
 ghost use Rattle.net.specs.Net.{net};
-ghost use Rattle.owners.specs.Tests.{all-below, those-below, is-back, points-back, closes, closes-if, owns};
+ghost use Rattle.owners.specs.Tests.{all-below, those-below, is-back, points-back, met-or-back};
 ghost use Rattle.owners.specs.Tests.{eligible as is-eligible};
 ghost use Rattle.owners.specs.Scan.{outcome, listed, scan, orbitOwners, ownersSaid, InUse, Back};
-ghost use Rattle.owners.specs.Marks.{Marked, Stepped, Scanned};
+ghost use Rattle.owners.specs.Marks.{Left, Marked, Stepped, Scanned, Owned};
 use net::Counts;
 use numbers::Halfedge;
 use numbers::NamedHalfedge;
@@ -69,25 +69,11 @@ fn is_paired_back(rows: &[i32], h: Halfedge, halfedges: usize) -> bool
     }
 }
 
-// Every pair of 0 or more is there and points back.
-fn paired_back(rows: &[i32], halfedges: usize) -> bool
-    requires { ⌜ halfedges ≤ lent-halfedges (now rows) ⌝ }
-    ensures { λ r. ⌜ r ≡ all-below (points-back halfedges (now (rows .entry))) halfedges ⌝ }
-{
-    let mut i = 0;
-    while i < halfedges {
-        if !is_paired_back(rows, numbers::halfedge_counted(i), halfedges) {
-            return false;
-        }
-        i += 1;
-    }
-    true
-}
-
-// Walks the fan of i: marks i as its owner and the others as met. Whether it closes.
+// Walks the fan of i: marks i as its owner and the others as met. Whether it closes, over pairs that point back.
 fn mark_fan(rows: &[i32], work: &mut [u8], halfedges: usize, i: Halfedge) -> bool
-    requires { ⌜ Back halfedges (now rows) × ((halfedgeNumber i < halfedges) × (halfedges ≤ length (now work))) ⌝ }
-    ensures { λ r. ⌜ Marked halfedges (now (rows .entry)) (halfedgeNumber i) (now (work .entry)) (now (work .exit)) r ⌝ }
+    requires { ⌜ InUse halfedges (now rows) × ((halfedgeNumber i < halfedges) × (halfedges ≤ length (now work))) ⌝ }
+    ensures { λ r. ⌜ Left halfedges (now (rows .entry)) (now (work .entry)) (now (work .exit)) r
+        × (Back halfedges (now (rows .entry)) → Marked halfedges (now (rows .entry)) (halfedgeNumber i) (now (work .entry)) (now (work .exit)) r) ⌝ }
 {
     let home = i.number();
     let mut c = i;
@@ -96,6 +82,9 @@ fn mark_fan(rows: &[i32], work: &mut [u8], halfedges: usize, i: Halfedge) -> boo
         let NamedHalfedge::At(p) = rows::halfedges::pair_of(rows, c, halfedges) else {
             return false;
         };
+        if !is_pair(rows, p, c, halfedges) {
+            return false;
+        }
         c = p.next();
         let here = c.number();
         if here == home {
@@ -108,7 +97,7 @@ fn mark_fan(rows: &[i32], work: &mut [u8], halfedges: usize, i: Halfedge) -> boo
     false
 }
 
-// Walks the fan of h if h is eligible and no walk has met it. Whether it closes.
+// Walks the fan of h if h is eligible and no walk has met it. Whether that goes well.
 fn mark_from(
     rows: &[i32],
     work: &mut [u8],
@@ -116,8 +105,9 @@ fn mark_from(
     h: Halfedge,
     eligible: Eligible,
 ) -> bool
-    requires { ⌜ Back halfedges (now rows) × ((halfedgeNumber h < halfedges) × (halfedges ≤ length (now work))) ⌝ }
-    ensures { λ r. ⌜ Stepped eligible halfedges (now (rows .entry)) (halfedgeNumber h) (now (work .entry)) (now (work .exit)) r ⌝ }
+    requires { ⌜ InUse halfedges (now rows) × ((halfedgeNumber h < halfedges) × (halfedges ≤ length (now work))) ⌝ }
+    ensures { λ r. ⌜ Left halfedges (now (rows .entry)) (now (work .entry)) (now (work .exit)) r
+        × (Back halfedges (now (rows .entry)) → Stepped eligible halfedges (now (rows .entry)) (halfedgeNumber h) (now (work .entry)) (now (work .exit)) r) ⌝ }
 {
     let i = h.number();
     if work[i] != 0 {
@@ -129,10 +119,11 @@ fn mark_from(
     mark_fan(rows, work, halfedges, h)
 }
 
-// Walks the fan of each eligible half-edge that no walk has met, rising. Whether all of them close.
+// Walks the fan of each eligible half-edge that no walk has met, rising. Whether all of them go well.
 fn mark_fans(rows: &[i32], work: &mut [u8], halfedges: usize, eligible: Eligible) -> bool
-    requires { ⌜ Back halfedges (now rows) × ((halfedges ≤ length (now work)) × ((g : ℕ) → g < halfedges → getD (now work) g 0 ≡ 0)) ⌝ }
-    ensures { λ r. ⌜ Scanned eligible halfedges (now (rows .entry)) (now (work .entry)) (now (work .exit)) r ⌝ }
+    requires { ⌜ InUse halfedges (now rows) × ((halfedges ≤ length (now work)) × ((g : ℕ) → g < halfedges → getD (now work) g 0 ≡ 0)) ⌝ }
+    ensures { λ r. ⌜ Left halfedges (now (rows .entry)) (now (work .entry)) (now (work .exit)) r
+        × (Back halfedges (now (rows .entry)) → Scanned eligible halfedges (now (rows .entry)) (now (work .exit)) r) ⌝ }
 {
     let mut i = 0;
     while i < halfedges {
@@ -143,6 +134,45 @@ fn mark_fans(rows: &[i32], work: &mut [u8], halfedges: usize, eligible: Eligible
         i += 1;
     }
     true
+}
+
+// A walk has met h, or the pair of h is below 0, or is there and points back.
+fn is_met_or_back(rows: &[i32], work: &[u8], h: Halfedge, halfedges: usize) -> bool
+    requires { ⌜ (halfedgeNumber h < halfedges) × ((halfedges ≤ lent-halfedges (now rows)) × (halfedges ≤ length (now work))) ⌝ }
+    ensures { λ r. ⌜ r ≡ met-or-back halfedges (now (rows .entry)) (now (work .entry)) (halfedgeNumber h) ⌝ }
+{
+    let i = h.number();
+    if work[i] != 0 {
+        return true;
+    }
+    is_paired_back(rows, h, halfedges)
+}
+
+// The pairs that no walk has tested are below 0, or are there and point back.
+fn others_back(rows: &[i32], work: &[u8], halfedges: usize) -> bool
+    requires { ⌜ (halfedges ≤ lent-halfedges (now rows)) × (halfedges ≤ length (now work)) ⌝ }
+    ensures { λ r. ⌜ r ≡ all-below (met-or-back halfedges (now (rows .entry)) (now (work .entry))) halfedges ⌝ }
+{
+    let mut i = 0;
+    while i < halfedges {
+        let h = numbers::halfedge_counted(i);
+        if !is_met_or_back(rows, work, h, halfedges) {
+            return false;
+        }
+        i += 1;
+    }
+    true
+}
+
+// Whether there are owners. If so, they are marked.
+fn has_owners(rows: &[i32], work: &mut [u8], halfedges: usize, eligible: Eligible) -> bool
+    requires { ⌜ InUse halfedges (now rows) × ((halfedges ≤ length (now work)) × ((g : ℕ) → g < halfedges → getD (now work) g 0 ≡ 0)) ⌝ }
+    ensures { λ r. ⌜ Owned eligible halfedges (now (rows .entry)) (now (work .entry)) (now (work .exit)) r ⌝ }
+{
+    if !mark_fans(rows, work, halfedges, eligible) {
+        return false;
+    }
+    others_back(rows, work, halfedges)
 }
 
 // Lists the half-edges that are marked as owners, rising. How many they are.
@@ -175,10 +205,7 @@ fn find_owners(
     ensures { λ r. ⌜ outcome (ownersSaid r) (now (work .exit)) (now (list .exit)) ≡ scan eligible halfedges (now (rows .entry)) (now (work .entry)) (now (list .entry)) ⌝ }
 {
     stretches::zero_u8(work, 0, halfedges);
-    if !paired_back(rows, halfedges) {
-        return Owners::NoOwners;
-    }
-    if !mark_fans(rows, work, halfedges, eligible) {
+    if !has_owners(rows, work, halfedges, eligible) {
         stretches::zero_u8(work, 0, halfedges);
         return Owners::NoOwners;
     }
