@@ -120,7 +120,7 @@ fn called(words: &[String]) {
     let chance = &mut Chance::new(seed);
     match words.get(1).map(String::as_str) {
         Some("quick") => compare(1, chance),
-        Some("whole") => compare(30, chance),
+        Some("whole") => compare(10, chance),
         Some("smoke") => compare(0, chance),
         Some("replay") if words.len() > 2 => replay::write(std::path::Path::new(&words[2]), chance),
         _ => {
@@ -130,11 +130,11 @@ fn called(words: &[String]) {
     }
 }
 
-/// `times` is the size: 1 quick, 30 whole, 0 a few calls of each kind (for a run under memcheck).
+/// `times` is the size: 1 quick, 10 whole, 0 a few calls of each kind (for a run under memcheck).
 fn compare(times: usize, chance: &mut Chance) {
     let table = &mut Table::new();
     // how much each entry is asked of each of many nets that are nearly the same
-    let few = if times > 1 { usize::MAX } else { 2 };
+    let few = if times > 1 { 3 } else { 2 };
 
     table.stage("numbers alone");
     for (which, entry) in ALL.iter().enumerate().filter(|(_, e)| !e.on_nets) {
@@ -149,6 +149,9 @@ fn compare(times: usize, chance: &mut Chance) {
         for (name, every) in entries::EVERY_NUMBER {
             let which = ALL.iter().position(|e| e.name == *name).expect("an entry's name");
             for h in i32::MIN..=i32::MAX {
+                if h & 0x1FFF_FFFF == 0 {
+                    eprintln!("  {name} from {h}");
+                }
                 match every(h) {
                     Some(number) => {
                         table.lines[which].calls += 1;

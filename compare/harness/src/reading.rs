@@ -132,7 +132,7 @@ pub fn mesh_of(l: &Lent) -> ManifoldImpl {
 }
 
 /// What the Rust's mesh holds, written back into the lent rows, with the counts; it fits (see `run`).
-fn leave(mesh: &ManifoldImpl, l: &mut Lent) {
+pub fn leave(mesh: &ManifoldImpl, l: &mut Lent) {
     let bits = |v: &Vec3| [v.x.to_bits(), v.y.to_bits(), v.z.to_bits()];
     for (row, h) in l.halfedges.chunks_exact_mut(4).zip(&mesh.halfedge) {
         row.copy_from_slice(&[h.start_vert, h.end_vert, h.paired_halfedge, h.prop_vert]);
