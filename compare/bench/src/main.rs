@@ -1,5 +1,7 @@
 //! Times each entry beside the original Rust: the same nets, one run, the two sides by turns, the best of several. Writes SPEED.md and
-//! speed.svg into the folder that it is given.
+//! speed.svg into a folder.
+//!
+//! bench FOLDER [TRIANGLES]: on nets of at most so many triangles
 #![allow(dead_code)]
 
 #[path = "../../harness/src/chance.rs"]
@@ -12,92 +14,253 @@ mod plot;
 
 use chance::Chance;
 use lent::Lent;
+use original::edge_op;
 use original::impl_mesh::ManifoldImpl;
 use spoonferret::raw;
 use std::fmt::Write;
 use std::hint::black_box;
 use std::time::Instant;
 
-/// One entry beside what the Rust does in its place. Neither changes the net here (no vertex of it is pinched).
-struct Race {
-    entry: &'static str,
-    beside: &'static str,
-    ours: fn(&mut Lent),
-    theirs: fn(&mut ManifoldImpl),
-}
-
-const RACES: &[Race] = &[
-    Race { entry: "check_net", beside: "split_pinched_verts", ours: check_net, theirs: original::edge_op::split_pinched_verts },
-    Race { entry: "split_pinched_verts", beside: "split_pinched_verts", ours: split_pinched_verts, theirs: original::edge_op::split_pinched_verts },
-];
-
-fn split_pinched_verts(l: &mut Lent) {
-    l.work_words.resize(l.used.halfedges + l.used.vertices, 0);
-    l.list.resize(l.used.halfedges, 0);
-    let told = unsafe {
-        raw::spoonferret_split_pinched_verts(
-            l.used,
-            l.halfedges.as_mut_ptr(),
-            l.halfedges.len(),
-            l.positions.as_mut_ptr(),
-            l.positions.len(),
-            l.normals.as_ptr(),
-            l.normals.len(),
-            l.references.as_ptr(),
-            l.references.len(),
-            l.properties.as_ptr(),
-            l.properties.len(),
-            l.work_words.as_mut_ptr(),
-            l.work_words.len(),
-            l.list.as_mut_ptr(),
-            l.list.len(),
-        )
-    };
-    assert_eq!((told.number, told.added, told.steps), (0, 0, l.used.halfedges));
-}
-
-fn check_net(l: &mut Lent) {
-    let told = unsafe {
-        raw::spoonferret_check_net(
-            l.used,
-            l.halfedges.as_ptr(),
-            l.halfedges.len(),
-            l.positions.as_ptr(),
-            l.positions.len(),
-            l.normals.as_ptr(),
-            l.normals.len(),
-            l.references.as_ptr(),
-            l.references.len(),
-            l.properties.as_ptr(),
-            l.properties.len(),
-        )
-    };
-    assert_eq!(told.number, 0);
-}
-
+/// One net for both sides, and the half-edges that surgery works at.
 struct Course {
     name: String,
     /// the curve of the plot that it is a point of
     curve: Option<&'static str>,
     net: Lent,
+    mesh: ManifoldImpl,
+    /// the same rows for the build with the feature `parallel`
+    rows: Vec<parallel::types::Halfedge>,
+    /// a half-edge, and one that update_vert comes to from it in two moves
+    from: usize,
+    to: usize,
+    /// a half-edge of two triangles that have folded onto each other, the last two
+    folded: usize,
 }
 
-fn courses(chance: &mut Chance) -> Vec<Course> {
+/// One entry beside what the Rust does in its place. Each call leaves the net as it was: what surgery changed is put back.
+struct Race {
+    entry: &'static str,
+    beside: &'static str,
+    ours: fn(&mut Course),
+    theirs: fn(&mut Course),
+    /// what the Rust does not do, as work of the same size by itself
+    shares: &'static [(&'static str, fn(&mut Course))],
+    /// the Rust's call takes a time that does not grow with the net
+    constant: bool,
+}
+
+const RACES: &[Race] = &[
+    Race { entry: "check_net", beside: "split_pinched_verts", ours: check_net, theirs: |c| edge_op::split_pinched_verts(&mut c.mesh), shares: &[], constant: false },
+    Race {
+        entry: "split_pinched_verts",
+        beside: "split_pinched_verts",
+        ours: split_pinched_verts,
+        theirs: |c| edge_op::split_pinched_verts(&mut c.mesh),
+        shares: &[("soundness", check_net), ("clearing", clear_words)],
+        constant: false,
+    },
+    Race {
+        entry: "orbit_owners",
+        beside: "orbit_owners",
+        ours: orbit_owners,
+        theirs: |c| assert!(black_box(parallel::edge_op::private::orbit_owners(&c.rows, false)).is_some()),
+        shares: &[("clearing", clear_bytes)],
+        constant: false,
+    },
+    Race {
+        entry: "update_vert",
+        beside: "update_vert",
+        ours: update_vert,
+        theirs: |c| edge_op::update_vert(&mut c.mesh, c.net.halfedges[4 * c.from + 1], c.from, c.to),
+        shares: &[("soundness", check_net)],
+        constant: true,
+    },
+    Race {
+        entry: "collapse_tri",
+        beside: "collapse_tri",
+        ours: collapse_tri,
+        theirs: |c| {
+            let rows = touched(&c.net, c.from);
+            let kept = rows.map(|h| c.mesh.halfedge[h]);
+            edge_op::collapse_tri(&mut c.mesh.halfedge, [rows[0], rows[1], rows[2]]);
+            for (h, row) in rows.into_iter().zip(kept) {
+                c.mesh.halfedge[h] = row;
+            }
+        },
+        shares: &[("soundness", check_net)],
+        constant: true,
+    },
+    Race {
+        entry: "remove_if_folded",
+        beside: "remove_if_folded",
+        ours: remove_if_folded,
+        theirs: |c| {
+            let kept: [_; 6] = c.mesh.halfedge[c.folded..].try_into().expect("six rows");
+            edge_op::remove_if_folded(&mut c.mesh, c.folded);
+            c.mesh.halfedge[c.folded..].copy_from_slice(&kept);
+        },
+        shares: &[("soundness", check_net)],
+        constant: true,
+    },
+    Race {
+        entry: "form_loop",
+        beside: "form_loop",
+        ours: form_loop,
+        theirs: |c| {
+            edge_op::form_loop(&mut c.mesh, c.from, c.from);
+            c.mesh.vert_pos.truncate(c.net.used.vertices);
+        },
+        shares: &[("soundness", check_net), ("the spare", fill_spare)],
+        constant: true,
+    },
+];
+
+/// Calls an entry of the library: the counts, the five arrays, and what else it takes.
+macro_rules! call {
+    ($entry:ident, $l:expr $(, $more:expr)*) => {
+        unsafe {
+            raw::$entry(
+                $l.used,
+                $l.halfedges.as_mut_ptr(),
+                $l.halfedges.len(),
+                $l.positions.as_mut_ptr(),
+                $l.positions.len(),
+                $l.normals.as_ptr(),
+                $l.normals.len(),
+                $l.references.as_ptr(),
+                $l.references.len(),
+                $l.properties.as_ptr(),
+                $l.properties.len()
+                $(, $more)*
+            )
+        }
+    };
+}
+
+fn check_net(c: &mut Course) {
+    let l = &mut c.net;
+    assert_eq!(call!(spoonferret_check_net, l).number, 0);
+}
+
+fn split_pinched_verts(c: &mut Course) {
+    let l = &mut c.net;
+    let told = call!(spoonferret_split_pinched_verts, l, l.work_words.as_mut_ptr(), l.work_words.len(), l.list.as_mut_ptr(), l.list.len());
+    assert_eq!((told.number, told.added, told.steps), (0, 0, l.used.halfedges));
+}
+
+fn orbit_owners(c: &mut Course) {
+    let l = &mut c.net;
+    let told = call!(spoonferret_orbit_owners, l, l.work_bytes.as_mut_ptr(), l.work_bytes.len(), l.list.as_mut_ptr(), l.list.len(), false);
+    assert_eq!((told.number, told.count), (0, l.used.vertices));
+}
+
+fn update_vert(c: &mut Course) {
+    let l = &mut c.net;
+    let vertex = l.halfedges[4 * c.from + 1];
+    assert_eq!(call!(spoonferret_update_vert, l, vertex, c.from as i32, c.to as i32).number, 0);
+}
+
+/// The rows that collapse_tri writes: its triangle, and the partners of the second and third.
+fn touched(l: &Lent, h: usize) -> [usize; 5] {
+    let (second, third) = (next(h), next(next(h)));
+    [h, second, third, l.halfedges[4 * second + 2] as usize, l.halfedges[4 * third + 2] as usize]
+}
+
+fn collapse_tri(c: &mut Course) {
+    let l = &mut c.net;
+    let rows = touched(l, c.from);
+    let kept: [[i32; 4]; 5] = rows.map(|h| l.halfedges[4 * h..4 * h + 4].try_into().expect("a row"));
+    assert_eq!(call!(spoonferret_collapse_tri, l, c.from as i32).number, 0);
+    for (h, row) in rows.into_iter().zip(kept) {
+        l.halfedges[4 * h..4 * h + 4].copy_from_slice(&row);
+    }
+}
+
+fn remove_if_folded(c: &mut Course) {
+    let l = &mut c.net;
+    let kept: [i32; 24] = l.halfedges[4 * c.folded..4 * c.folded + 24].try_into().expect("six rows");
+    assert_eq!(call!(spoonferret_remove_if_folded, l, c.folded as i32).number, 0);
+    l.halfedges[4 * c.folded..4 * c.folded + 24].copy_from_slice(&kept);
+}
+
+fn form_loop(c: &mut Course) {
+    let l = &mut c.net;
+    let told = call!(
+        spoonferret_form_loop,
+        l,
+        l.spare_halfedges.as_mut_ptr(),
+        l.spare_halfedges.len(),
+        l.spare_positions.as_mut_ptr(),
+        l.spare_positions.len(),
+        c.from as i32,
+        c.from as i32
+    );
+    assert_eq!(told.number, 0);
+}
+
+fn clear_words(c: &mut Course) {
+    black_box(&mut c.net.work_words).fill(0);
+}
+
+fn clear_bytes(c: &mut Course) {
+    black_box(&mut c.net.work_bytes).fill(0);
+}
+
+fn fill_spare(c: &mut Course) {
+    let l = &mut c.net;
+    black_box(&mut l.spare_halfedges).copy_from_slice(&l.halfedges);
+    let rows = l.spare_positions.len();
+    black_box(&mut l.spare_positions).copy_from_slice(&l.positions[..rows]);
+}
+
+fn next(h: usize) -> usize {
+    h / 3 * 3 + (h + 1) % 3
+}
+
+/// A net of these closed pieces, two folded triangles behind them, and room for two vertices.
+fn course(name: String, curve: Option<&'static str>, pieces: Vec<[usize; 3]>, in_order: bool, chance: &mut Chance) -> Course {
+    let mut net = nets::built(pieces, in_order, chance);
+    let (folded, v) = (net.used.halfedges, net.used.vertices);
+    for (k, pair) in [3, 5, 4, 0, 2, 1].into_iter().enumerate() {
+        let (start, end) = ([0, 1, 2, 1, 0, 2][k], [1, 2, 0, 0, 2, 1][k]);
+        net.halfedges.extend([(v + start) as i32, (v + end) as i32, (folded + pair) as i32, -1]);
+    }
+    net.used.halfedges += 6;
+    net.used.vertices += 3;
+    net.positions.resize(3 * net.used.vertices, 0x3FF0_0000_0000_0000);
+    let mesh = mesh_of(&net);
+    net.positions.resize(3 * net.used.vertices + 6, 0);
+    net.work_words = vec![0; net.used.halfedges + net.used.vertices];
+    net.work_bytes = vec![0; net.used.halfedges];
+    net.list = vec![0; net.used.halfedges];
+    net.spare_halfedges = vec![0; 4 * net.used.halfedges];
+    net.spare_positions = vec![0; 3 * net.used.vertices];
+    let rows = mesh
+        .halfedge
+        .iter()
+        .map(|h| parallel::types::Halfedge { start_vert: h.start_vert, end_vert: h.end_vert, paired_halfedge: h.paired_halfedge, prop_vert: h.prop_vert })
+        .collect();
+    let from = folded / 2;
+    let onward = |h: usize| net.halfedges[4 * next(h) + 2] as usize;
+    let to = onward(onward(from));
+    Course { name, curve, net, mesh, rows, from, to, folded }
+}
+
+fn courses(most: usize, chance: &mut Chance) -> Vec<Course> {
     let mut all = vec![];
-    for triangles in [1_000, 10_000, 100_000, 1_000_000] {
+    for triangles in [1_000, 10_000, 100_000, 1_000_000].into_iter().filter(|&t| t <= most) {
+        let side = (triangles as f64 / 2.0).sqrt() as usize;
         for (in_order, curve) in [(true, "in order"), (false, "shuffled")] {
-            all.push(Course {
-                name: format!("torus of {} triangles, {curve}", with_commas(triangles)),
-                curve: Some(curve),
-                net: nets::large(triangles, in_order, chance),
-            });
+            eprintln!("a torus of {} triangles, {curve}", with_commas(triangles));
+            all.push(course(format!("torus of {} triangles, {curve}", with_commas(triangles)), Some(curve), nets::torus(side, triangles / 2 / side), in_order, chance));
         }
     }
-    all.push(Course { name: "bipyramid of valence 10,000".into(), curve: None, net: nets::built(nets::bipyramid(10_000), true, chance) });
+    let valence = 10_000.min(most / 2);
+    all.push(course(format!("bipyramid of valence {}", with_commas(valence)), None, nets::bipyramid(valence), true, chance));
+    let count = 10_000.min(most / 10);
     for (in_order, how) in [(true, "in order"), (false, "shuffled")] {
-        let pieces: Vec<[usize; 3]> =
-            (0..10_000).flat_map(|i| nets::bipyramid(5).into_iter().map(move |t| t.map(|v| v + 7 * i))).collect();
-        all.push(Course { name: format!("10,000 pieces of 10 triangles, {how}"), curve: None, net: nets::built(pieces, in_order, chance) });
+        let pieces = (0..count).flat_map(|i| nets::bipyramid(5).into_iter().map(move |t| t.map(|v| v + 7 * i))).collect();
+        all.push(course(format!("{} pieces of 10 triangles, {how}", with_commas(count)), None, pieces, in_order, chance));
     }
     all
 }
@@ -128,61 +291,102 @@ fn mesh_of(l: &Lent) -> ManifoldImpl {
 }
 
 /// Nanoseconds of one call: the best of the rounds, each long enough to be timed.
-fn best(best_yet: &mut f64, times: usize, mut f: impl FnMut()) {
+fn best(best_yet: &mut f64, times: usize, course: &mut Course, f: fn(&mut Course)) {
     let start = Instant::now();
     for _ in 0..times {
-        f();
+        f(black_box(course));
     }
     *best_yet = best_yet.min(start.elapsed().as_nanos() as f64 / times as f64);
 }
 
+/// Times of one entry on one net: ours, the Rust's, and each share by itself. Rounds are short, so that one that nothing interrupts is among
+/// them; at least three, and no new one after three seconds.
+fn raced(race: &Race, course: &mut Course) -> (f64, f64, Vec<f64>) {
+    let times = (200_000 / course.net.used.halfedges).max(1);
+    let (mut ours, mut theirs) = (f64::MAX, f64::MAX);
+    let mut shares = vec![f64::MAX; race.shares.len()];
+    let began = Instant::now();
+    for round in 0..60 {
+        if round > 2 && began.elapsed().as_secs() >= 3 {
+            break;
+        }
+        best(&mut ours, times, course, race.ours);
+        best(&mut theirs, if race.constant { 1_000 } else { times }, course, race.theirs);
+        for (share, (_, f)) in shares.iter_mut().zip(race.shares) {
+            best(share, times, course, *f);
+        }
+    }
+    (ours, theirs, shares)
+}
+
 fn main() {
-    let folder = std::path::PathBuf::from(std::env::args().nth(1).expect("bench FOLDER"));
-    let chance = &mut Chance::new(1);
-    let courses = courses(chance);
-    let mut page = String::from(
-        "# Speed\n\n`scripts/bench` writes this page: both sides in one run on the same nets, by turns, the best of several rounds, one thread, \
-         release builds. The machine is shared, so a ratio says more than a time.\n",
-    );
+    let words: Vec<String> = std::env::args().collect();
+    parallel::on_one_thread(|| run(&words));
+}
+
+fn run(words: &[String]) {
+    let folder = std::path::Path::new(words.get(1).expect("bench FOLDER [TRIANGLES]"));
+    let most = words.get(2).and_then(|w| w.parse().ok()).unwrap_or(1_000_000);
+    let mut courses = courses(most, &mut Chance::new(1));
+    let mut page = String::from(OPENING);
     let mut curves = vec![];
     for race in RACES {
+        let shares: String = race.shares.iter().map(|(name, _)| format!(" of which {name} |")).collect();
         let _ = write!(
             page,
-            "\n## {} beside the Rust's {}\n\n| net | half-edges | {}, ns a half-edge | Rust's {}, ns a half-edge | ratio |\n|---|---|---|---|---|\n",
-            race.entry, race.beside, race.entry, race.beside
+            "\n## {} beside the Rust's {}\n\n| net | half-edges | {}, ns a half-edge |{}{}\n|---|---|---|{}---|---|\n",
+            race.entry,
+            race.beside,
+            race.entry,
+            shares,
+            if race.constant { format!(" these of the whole | Rust's {}, ns a call |", race.beside) } else { format!(" Rust's {}, ns a half-edge | ratio |", race.beside) },
+            "---|".repeat(race.shares.len())
         );
-        for course in &courses {
-            let mut net = course.net.clone();
-            let mut mesh = mesh_of(&net);
-            let rows = net.used.halfedges;
-            let times = (3_000_000 / rows).max(1);
-            let (mut ours, mut theirs) = (f64::MAX, f64::MAX);
-            for _ in 0..9 {
-                best(&mut ours, times, || (race.ours)(black_box(&mut net)));
-                best(&mut theirs, times, || (race.theirs)(black_box(&mut mesh)));
-            }
-            assert_eq!(mesh.vert_pos.len(), net.used.vertices, "nothing is pinched here");
-            let line = format!(
-                "| {} | {} | {:.2} | {:.2} | {:.2} |",
-                course.name,
-                with_commas(rows),
-                ours / rows as f64,
-                theirs / rows as f64,
-                ours / theirs
-            );
+        eprintln!("{} beside the Rust's {}", race.entry, race.beside);
+        for course in &mut courses {
+            let rows = course.net.used.halfedges as f64;
+            let (ours, theirs, shares) = raced(race, course);
+            let apart: f64 = shares.iter().sum();
+            let shown: String = shares.iter().map(|s| format!(" {:.2} |", s / rows)).collect();
+            let (one, other) = if race.constant { (apart / ours, theirs) } else { (theirs / rows, ours / theirs) };
+            let line = format!("| {} | {} | {:.2} |{shown} {one:.2} | {other:.2} |", course.name, with_commas(rows as usize), ours / rows);
             eprintln!("{line}");
             let _ = writeln!(page, "{line}");
             if let Some(curve) = course.curve {
-                curves.push((format!("{}, {curve}", race.entry), rows as f64 / 3.0, ours));
-                curves.push((format!("Rust's {}, {curve}", race.beside), rows as f64 / 3.0, theirs));
+                curves.push((race.entry.to_string(), curve, rows / 3.0, ours));
+                if !race.constant && race.entry != "check_net" {
+                    curves.push((format!("Rust's {}", race.beside), curve, rows / 3.0, theirs));
+                }
             }
         }
     }
-    page += "\n![time against size](speed.svg)\n\n\
-             The Rust has no soundness check: check_net is what it does not do. So check_net is put beside the Rust's split, which reads the same rows \
-             unchecked: wanted was at most its time. The check goes by triangle and reads each row once and its partner once; the Rust's split walks every fan.\n\n\
-             Our split_pinched_verts begins with that check (its share is the first table), counts the copies before it writes, so that a refusal leaves the net as it \
-             was, writes the visit list and clears the work buffer; the Rust does none of the four.\n";
+    page += CLOSING;
     std::fs::write(folder.join("SPEED.md"), page).expect("the page is written");
     std::fs::write(folder.join("speed.svg"), plot::drawn(&curves)).expect("the plot is written");
 }
+
+const OPENING: &str = "# Speed
+
+`scripts/bench` writes this page: both sides in one run on the same nets, by turns, the best of several rounds, one thread, release builds. The machine is \
+shared, so a ratio says more than a time. Each net has two folded triangles besides, and no vertex of it is pinched.
+
+What the Rust does not do is shown by itself, as the time of work of the same size: soundness is check_net on the same net, the spare a copy of the half-edge \
+and position rows in use, clearing a fill of the work buffer.
+";
+
+const CLOSING: &str = "
+![time against size](speed.svg)
+
+The Rust has no soundness check: check_net is what it does not do. So check_net is put beside the Rust's split, which reads the same rows \
+unchecked: wanted was at most its time. The check goes by triangle and reads each row once and its partner once; the Rust's split walks every fan.
+
+Our split_pinched_verts begins with that check, counts the copies before it writes, so that a refusal leaves the net as it was, writes the visit list and clears \
+the work buffer; the Rust does none of the four. Wanted, on the torus of 1,000,000 triangles, was at most 2.3 of the Rust's time in order and 1.0 shuffled.
+
+orbit_owners is for nets that need not be sound, so it has no such check; it clears its work buffer before and after. The Rust's is the build with the feature \
+`parallel`, threshold 0, on one thread. Wanted, on the torus of 1,000,000 triangles, was at most 0.6 of its time.
+
+The four operations of surgery are asked at one half-edge, and what they change is put back before the next call. The Rust's calls touch a few rows and take the same time \
+whatever the net; ours read the whole net first, to refuse one that is not sound, and form_loop copies it into the spare, to put it back where it is refused. So their time is that \
+of these shares: their own work is too small beside it to be measured here.
+";

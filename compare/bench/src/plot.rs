@@ -2,14 +2,15 @@
 
 use std::fmt::Write;
 
-const COLOURS: [&str; 6] = ["#1b6ca8", "#c0392b", "#27ae60", "#8e44ad", "#d68910", "#555555"];
+const COLOURS: [&str; 10] =
+    ["#1b6ca8", "#c0392b", "#e59866", "#27ae60", "#7dcea0", "#8e44ad", "#d68910", "#555555", "#17a2b8", "#000000"];
 
-/// Points of named curves: size in triangles, time in nanoseconds.
-pub fn drawn(points: &[(String, f64, f64)]) -> String {
+/// Points of named curves, in order or shuffled (dashed): size in triangles, time in nanoseconds.
+pub fn drawn(points: &[(String, &str, f64, f64)]) -> String {
     let (left, top, width, height) = (70.0, 20.0, 480.0, 330.0);
     let (x0, x1) = (3.0, 6.0);
-    let low = points.iter().map(|p| p.2.log10().floor()).fold(f64::MAX, f64::min);
-    let high = points.iter().map(|p| p.2.log10().ceil()).fold(f64::MIN, f64::max);
+    let low = points.iter().map(|p| p.3.log10().floor()).fold(f64::MAX, f64::min);
+    let high = points.iter().map(|p| p.3.log10().ceil()).fold(f64::MIN, f64::max);
     let at = |size: f64, time: f64| {
         (left + (size.log10() - x0) / (x1 - x0) * width, top + height - (time.log10() - low) / (high - low) * height)
     };
@@ -30,22 +31,26 @@ pub fn drawn(points: &[(String, f64, f64)]) -> String {
     }
     let _ = writeln!(out, "<text x=\"{:.1}\" y=\"{:.1}\" text-anchor=\"middle\">triangles</text>", left + width / 2.0, top + height + 38.0);
     let mut names: Vec<&String> = vec![];
-    for (name, _, _) in points {
+    for (name, ..) in points {
         if !names.contains(&name) {
             names.push(name);
         }
     }
     for (i, name) in names.iter().enumerate() {
         let colour = COLOURS[i % COLOURS.len()];
-        let dots: Vec<(f64, f64)> = points.iter().filter(|p| &&p.0 == name).map(|p| at(p.1, p.2)).collect();
-        let line: Vec<String> = dots.iter().map(|(x, y)| format!("{x:.1},{y:.1}")).collect();
-        let _ = writeln!(out, "<polyline points=\"{}\" fill=\"none\" stroke=\"{colour}\" stroke-width=\"2\"/>", line.join(" "));
-        for (x, y) in dots {
-            let _ = writeln!(out, "<circle cx=\"{x:.1}\" cy=\"{y:.1}\" r=\"3\" fill=\"{colour}\"/>");
+        for (order, dashes) in [("in order", ""), ("shuffled", " stroke-dasharray=\"6 4\"")] {
+            let dots: Vec<(f64, f64)> = points.iter().filter(|p| &&p.0 == name && p.1 == order).map(|p| at(p.2, p.3)).collect();
+            let line: Vec<String> = dots.iter().map(|(x, y)| format!("{x:.1},{y:.1}")).collect();
+            let _ = writeln!(out, "<polyline points=\"{}\" fill=\"none\" stroke=\"{colour}\" stroke-width=\"2\"{dashes}/>", line.join(" "));
+            for (x, y) in dots {
+                let _ = writeln!(out, "<circle cx=\"{x:.1}\" cy=\"{y:.1}\" r=\"3\" fill=\"{colour}\"/>");
+            }
         }
         let y = top + 14.0 + 20.0 * i as f64;
         let _ = writeln!(out, "<line x1=\"{:.1}\" y1=\"{:.1}\" x2=\"{:.1}\" y2=\"{:.1}\" stroke=\"{colour}\" stroke-width=\"2\"/><text x=\"{:.1}\" y=\"{y:.1}\">{name}</text>", left + width + 14.0, y - 4.0, left + width + 38.0, y - 4.0, left + width + 44.0);
     }
+    let y = top + 14.0 + 20.0 * names.len() as f64;
+    let _ = writeln!(out, "<text x=\"{:.1}\" y=\"{y:.1}\">dashed: shuffled</text>", left + width + 14.0);
     out.push_str("</svg>\n");
     out
 }
