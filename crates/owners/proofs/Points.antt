@@ -1,19 +1,21 @@
--- Rows with a pair of 0 or more, rows without, and pairs that point back, each by its test.
-use mathlib.Core.Path.{_≡_, refl, sym, ap, _∙_}
-use mathlib.Core.Bool.{Bool, true, false, not, true≢false}
+-- Rows with a pair of 0 or more, rows without, and pairs that point back, each by its test; and where a row turns to.
+use mathlib.Core.Path.{_≡_, refl, sym, ap, _∙_, subst}
+use mathlib.Core.Bool.{Bool, true, false, _&&_, not, true≢false}
 use mathlib.Core.List.{List}
 use Prim.Native.Nat.{ℕ, _<_}
 use native.Mathlib.Omega.{arith}
 use borrow.Author.Tests.{eq-eqb, eqb-true, le-leb}
 use lib.IntN.{ℤ, pos, negsuc, natAbs, pos-ne-negsuc}
 use lib.Signed.{leZ}
-use Rattle.laws.proofs.Tests.{by-test, not-both}
+use Rattle.laws.proofs.Tests.{by-test, and2, not-both}
+use Rattle.numbers.specs.Next.{next}
 use Rattle.numbers.specs.Numbers.{Named, at, nothing, names}
-use Rattle.numbers.proofs.Names.{names-is, names-below, names-at}
+use Rattle.numbers.proofs.Names.{names-is, names-below, names-at, at-inj, nothing-not-at}
+use Rattle.numbers.proofs.NextLaws.{next-in}
 use Rattle.rows.specs.Halfedges.{pairOf, is-paired}
-use Rattle.net.specs.Sound.{partner, Paired}
+use Rattle.net.specs.Sound.{partner, Paired, turn}
 use Rattle.owners.specs.Words.{Unpaired, PointsBack}
-use Rattle.owners.specs.Tests.{all-below, is-back, back-by, points-back}
+use Rattle.owners.specs.Tests.{all-below, is-back, back-by, points-back, turns-to}
 use Rattle.owners.specs.Scan.{InUse, Back}
 use Rattle.owners.proofs.Below.{all-yes}
 
@@ -85,3 +87,47 @@ module _ (H : ℕ) (rows : List ℤ) where
 
   pub back-yes : InUse H rows → all-below (points-back H rows) H ≡ true → Back H rows
   back-yes u t = record { in-use = u; back = λ h l p. points-yes h (all-yes (points-back H rows) H t h l) p }
+
+-- ---- where a row turns to
+pub record Turned (H : ℕ) (rows : List ℤ) (h d : ℕ) : Type 0 where
+  pub back : points-back H rows h ≡ true
+  pub paired : Paired rows h
+  pub to : turn rows h ≡ d
+  pub in-use : d < H
+
+module _ (H : ℕ) (rows : List ℤ) (h : ℕ) where
+  -- by the pair that is named
+  pub turns-open : names (pairOf rows h) H ≡ nothing → turns-to H rows h ≡ nothing
+  unfolding turns-to points-back
+  turns-open e = rw e (by-test (is-paired rows h) (λ t. rw t) (λ t. rw t))
+
+  pub turns-astray : (p : ℕ) → names (pairOf rows h) H ≡ at p → is-back h (names (pairOf rows p) H) ≡ false → turns-to H rows h ≡ nothing
+  unfolding turns-to
+  turns-astray p e t = rw (points-at H rows h p e (sym t))
+
+  pub turns-on : (p : ℕ) → names (pairOf rows h) H ≡ at p → is-back h (names (pairOf rows p) H) ≡ true → turns-to H rows h ≡ at (next p)
+  unfolding turns-to
+  turns-on p e t =
+      let q = names-is (pairOf rows h) H e in
+      rw (points-at H rows h p e (sym t), paired-true rows h (rw q)) (ap (λ (z : ℤ). at (next (natAbs z))) q)
+
+  -- what it tells
+  pub turns-yes : InUse H rows → (d : ℕ) → turns-to H rows h ≡ at d → Turned H rows h d
+  unfolding turns-to
+  turns-yes u d e =
+      by-test (points-back H rows h && is-paired rows h)
+      (λ t.
+      let p = and2 (points-back H rows h) (is-paired rows h) t in
+      let b = paired-yes rows h (p .1) in
+      let q : turn rows h ≡ d = at-inj (rw t at e) in
+      record {
+        back = p .0;
+        paired = b;
+        to = q;
+        in-use = subst (λ x. x < H) q (next-in (partner rows h) H (points-yes H rows h (p .0) b .0) (u .thirds));
+      })
+      (λ t. absurd (nothing-not-at (rw t at e)))
+
+  pub turns-no : turns-to H rows h ≡ nothing → points-back H rows h ≡ true → Paired rows h → ⊥
+  unfolding turns-to
+  turns-no e t p = nothing-not-at {n = turn rows h} (sym e ∙ rw (t, paired-true rows h p))

@@ -1,6 +1,5 @@
 -- The walk of one fan: what holds before each turn of the loop, where it begins, what a turn does, and what is left where it comes
--- home, where it meets a row without pair, and, which cannot be where every pair points back, where a pair does not or its turns are
--- spent.
+-- home, where there is no turn to make, and where its turns are spent, which cannot be where every pair points back.
 use mathlib.Core.Path.{_≡_, refl, sym, ap, _∙_, subst}
 use mathlib.Core.Bool.{Bool, true, false}
 use mathlib.Core.List.{List}
@@ -8,23 +7,19 @@ use mathlib.Core.Logic.{_≢_}
 use Prim.Native.Nat.{ℕ, suc, _-_, _≤_, _<_}
 use native.Mathlib.Omega.{arith}
 use native.Mathlib.Decide.{ℕ-discrete}
-use lib.IntN.{ℤ, pos, natAbs}
+use lib.IntN.{ℤ}
 use lib.ListN.{length, getD, set}
 use lib.Seq.{getD-set-same, getD-set-other}
 use Rattle.laws.proofs.Tests.{by-test, not-both}
-use Rattle.numbers.specs.Next.{next}
-use Rattle.numbers.specs.Numbers.{at, nothing, names}
-use Rattle.numbers.proofs.Names.{names-is, names-below, names-at, nothing-not-at}
-use Rattle.numbers.proofs.NextLaws.{next-in}
-use Rattle.rows.specs.Halfedges.{pairOf}
-use Rattle.net.specs.Sound.{partner, Paired, turn}
+use Rattle.numbers.specs.Numbers.{nothing}
+use Rattle.net.specs.Sound.{Paired, turn}
 use Rattle.turning.specs.Fan.{iter, Reach}
 use Rattle.turning.proofs.Orbit.{Period, period, soon}
-use Rattle.owners.specs.Tests.{points-back, closes}
+use Rattle.owners.specs.Tests.{closes, turns-to}
 use Rattle.owners.specs.Scan.{Back}
 use Rattle.owners.specs.Marks.{Left, Marked}
 use Rattle.owners.proofs.Leaving.{Leaving, leaving-begins, leaving-stops, leaving-on, leaving-home}
-use Rattle.owners.proofs.Points.{points-true}
+use Rattle.owners.proofs.Points.{Turned, points-true, turns-no}
 use Rattle.owners.proofs.Fan.{iter-in, closed-by, closes-yes, closes-true, fans}
 
 -- k turns were made from i, to c; each half-edge come to is marked with 1, and none was i
@@ -46,48 +41,38 @@ walking-begins H rows i work = record {
   others = λ g q. refl;
 }
 
--- the pair that a row names
-pub turned : (rows : List ℤ) (H c p : ℕ) → names (pairOf rows c) H ≡ at p → turn rows c ≡ next p
-turned rows H c p e = ap (λ (z : ℤ). next (natAbs z)) (names-is (pairOf rows c) H e)
-
-has-pair : (rows : List ℤ) (H c p : ℕ) → names (pairOf rows c) H ≡ at p → Paired rows c
-has-pair rows H c p e = rw (names-is (pairOf rows c) H e)
-
 module _ (H : ℕ) (rows : List ℤ) (B : Back H rows) (i : ℕ) (l : i < H) {work₀ work : List ℕ} {c k : ℕ} (W : Walking H rows i work₀ work c k) where
   pub walking-in : c < H
   walking-in = subst (λ x. x < H) (sym (W .here)) (iter-in H rows B k i l (W .paired))
 
-  -- ---- a row with a pair
-  module _ (p : ℕ) (e : names (pairOf rows c) H ≡ at p) where
-    next-in-use : next p < H
-    next-in-use = next-in p H (names-below (pairOf rows c) H e) (B .in-use .thirds)
-
-    on : next p ≡ iter (turn rows) (suc k) i
-    on = sym (turned rows H c p e) ∙ ap (turn rows) (W .here)
+  -- ---- a turn
+  module _ (d : ℕ) (T : Turned H rows c d) where
+    on : d ≡ iter (turn rows) (suc k) i
+    on = sym (T .to) ∙ ap (turn rows) (W .here)
 
     paired-so-far : (j : ℕ) → j < suc k → Paired rows (iter (turn rows) j i)
     paired-so-far j m = elim (ℕ-discrete j k) [
-      | yes q ↦ subst (Paired rows) (W .here ∙ ap (λ x. iter (turn rows) x i) (sym q)) (has-pair rows H c p e)
+      | yes q ↦ subst (Paired rows) (W .here ∙ ap (λ x. iter (turn rows) x i) (sym q)) (T .paired)
       | no q ↦ W .paired j (omega arith)
     ]
 
-    pub walking-on : k < H → H ≤ length work → next p ≢ i → Walking H rows i work₀ (set work (next p) 1) (next p) (suc k)
+    pub walking-on : k < H → H ≤ length work → d ≢ i → Walking H rows i work₀ (set work d 1) d (suc k)
     walking-on b long n = record {
       upto = b;
       here = on;
       paired = paired-so-far;
       away = λ j a m. elim (ℕ-discrete j (suc k)) [ yes q ↦ λ z. n (on ∙ ap (λ x. iter (turn rows) x i) (sym q) ∙ z) | no q ↦ W .away j a (omega arith) ];
-      met = λ j a m. elim (ℕ-discrete (iter (turn rows) j i) (next p)) [
-        | yes q ↦ rw q (getD-set-same work (next p) 1 0 (omega (arith, next-in-use)))
+      met = λ j a m. elim (ℕ-discrete (iter (turn rows) j i) d) [
+        | yes q ↦ rw q (getD-set-same work d 1 0 (omega (arith, T .in-use)))
         | no q ↦
-            getD-set-other work (next p) (iter (turn rows) j i) 1 0 q
+            getD-set-other work d (iter (turn rows) j i) 1 0 q
             ∙ W .met j a (elim (ℕ-discrete j (suc k)) [ yes z ↦ absurd (q (ap (λ x. iter (turn rows) x i) z ∙ sym on)) | no z ↦ omega arith ])
       ];
-      others = λ g q. getD-set-other work (next p) g 1 0 (λ z. q (suc k) (omega arith) (omega arith) (sym on ∙ sym z)) ∙ W .others g (λ j a m. q j a (omega arith));
+      others = λ g q. getD-set-other work d g 1 0 (λ z. q (suc k) (omega arith) (omega arith) (sym on ∙ sym z)) ∙ W .others g (λ j a m. q j a (omega arith));
     }
 
     -- ---- home again
-    module _ (b : k < H) (long : H ≤ length work) (h : next p ≡ i) where
+    module _ (b : k < H) (long : H ≤ length work) (h : d ≡ i) where
       round : Period (turn rows) H i
       round = record {
         p = suc k;
@@ -112,7 +97,7 @@ module _ (H : ℕ) (rows : List ℤ) (B : Back H rows) (i : ℕ) (l : i < H) {wo
             | no z ↦ subst (λ x. getD work x 0 ≡ 1) q (W .met (s .0) (omega arith) (omega arith))
           ]
 
-      pub walking-home : Marked H rows i work₀ (set work (next p) 2) true
+      pub walking-home : Marked H rows i work₀ (set work d 2) true
       walking-home = rw h (record {
         told = sym (closes-true H rows B i (record { in-use = l; paired = all-paired }));
         home = λ t. getD-set-same work i 2 0 (omega arith);
@@ -120,26 +105,20 @@ module _ (H : ℕ) (rows : List ℤ) (B : Back H rows) (i : ℕ) (l : i < H) {wo
         others = λ t g q. getD-set-other work i g 2 0 (λ z. q (0, sym z)) ∙ W .others g (λ j a m z. q (j, z));
       })
 
-    -- ---- a pair that does not point back, which cannot be
-    pub walking-astray {ℓ} : {P : Type ℓ} → points-back H rows c ≡ false → P
-    walking-astray f =
-        let q = has-pair rows H c p e in
-        not-both (points-back H rows c) (points-true H rows c walking-in (B .back c walking-in q) q) f
-
-  -- ---- a row without pair
-  open-not : names (pairOf rows c) H ≡ nothing → Paired rows c → ⊥
-  open-not e p =
-      nothing-not-at (sym e ∙ names-at (pairOf rows c) H (partner rows c) p (B .back c walking-in p .0))
-
-  pub walking-open : names (pairOf rows c) H ≡ nothing → Marked H rows i work₀ work false
+  -- ---- no turn to make, or H turns and not home, which cannot be
+  pub walking-open : turns-to H rows c ≡ nothing → Marked H rows i work₀ work false
   walking-open e = record {
-    told = by-test (closes H rows i) (λ t. absurd (open-not e (subst (Paired rows) (sym (W .here)) (closes-yes H rows B i l t .paired k)))) sym;
+    told =
+        by-test (closes H rows i)
+        (λ t.
+        let q : Paired rows c = subst (Paired rows) (sym (W .here)) (closes-yes H rows B i l t .paired k) in
+        absurd (turns-no H rows c e (points-true H rows c walking-in (B .back c walking-in q) q) q))
+        sym;
     home = λ t. not-both false t refl;
     fan = λ t. not-both false t refl;
     others = λ t. not-both false t refl;
   }
 
-  -- ---- H turns and not home
   pub walking-out {ℓ} : {P : Type ℓ} → k ≡ H → P
   walking-out q =
       let C = closed-by H rows B i l (λ j m. W .paired j (omega arith)) in
@@ -164,28 +143,24 @@ walk-begins H rows i work l = record {
 }
 
 module _ {H : ℕ} {rows : List ℤ} {i : ℕ} (l : i < H) {work₀ work : List ℕ} {c left : ℕ} (W : Walk H rows i work₀ work c left) where
-  pub walk-open : names (pairOf rows c) H ≡ nothing → Walked H rows i work₀ work false
+  pub walk-open : turns-to H rows c ≡ nothing → Walked H rows i work₀ work false
   walk-open e = (leaving-stops (W .leaving), λ B. walking-open H rows B i l (W .walking B) e)
 
   pub walk-out : left ≡ 0 → Walked H rows i work₀ work false
   walk-out q = (leaving-stops (W .leaving), λ B. walking-out H rows B i l (W .walking B) (omega arith))
 
-  module _ {p : ℕ} (e : names (pairOf rows c) H ≡ at p) where
-    pub walk-astray : points-back H rows c ≡ false → Walked H rows i work₀ work false
-    walk-astray t = (leaving-stops (W .leaving), λ B. walking-astray H rows B i l (W .walking B) p e t)
+  module _ {d : ℕ} (T : Turned H rows c d) (b : 0 < left) (long : H ≤ length work₀) where
+    pub walk-home : d ≡ i → Walked H rows i work₀ (set work d 2) true
+    walk-home q = (
+      rw q (leaving-home (W .leaving) (T .back) l),
+      λ B. walking-home H rows B i l (W .walking B) d T (omega (arith, W .upto)) (omega (arith, W .leaving .kept)) q,
+    )
 
-    module _ (b : 0 < left) (long : H ≤ length work₀) (t : points-back H rows c ≡ true) where
-      pub walk-home : next p ≡ i → Walked H rows i work₀ (set work (next p) 2) true
-      walk-home q = (
-        rw q (leaving-home (W .leaving) t l),
-        λ B. walking-home H rows B i l (W .walking B) p e (omega (arith, W .upto)) (omega (arith, W .leaving .kept)) q,
-      )
-
-      pub walk-on : next p < H → next p ≢ i → Walk H rows i work₀ (set work (next p) 1) (next p) (left - 1)
-      walk-on m n = record {
-        upto = omega (arith, W .upto);
-        leaving = leaving-on (W .leaving) t (next p) m;
-        walking = λ B.
-            let z : H - (left - 1) ≡ suc (H - left) = omega (arith, W .upto) in
-            rw z (walking-on H rows B i l (W .walking B) p e (omega (arith, W .upto)) (omega (arith, W .leaving .kept)) n);
-      }
+    pub walk-on : d ≢ i → Walk H rows i work₀ (set work d 1) d (left - 1)
+    walk-on n = record {
+      upto = omega (arith, W .upto);
+      leaving = leaving-on (W .leaving) (T .back) d (T .in-use);
+      walking = λ B.
+          let z : H - (left - 1) ≡ suc (H - left) = omega (arith, W .upto) in
+          rw z (walking-on H rows B i l (W .walking B) d T (omega (arith, W .upto)) (omega (arith, W .leaving .kept)) n);
+    }

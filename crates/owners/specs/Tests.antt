@@ -39,6 +39,10 @@ back-by H rows h nothing = not (is-paired rows h)
 unfoldable pub points-back : ℕ → List ℤ → ℕ → Bool
 points-back H rows h = back-by H rows h (names (pairOf rows h) H)
 
+-- where h turns to, if its pair is in 0..H and points back
+unfoldable pub turns-to : ℕ → List ℤ → ℕ → Named
+turns-to H rows h = cond (points-back H rows h && is-paired rows h) (at (turn rows h)) nothing
+
 -- h is marked, or its pair is below 0, or in 0..H and points back
 abbrev pub met-or-back : ℕ → List ℤ → List ℕ → ℕ → Bool
 met-or-back H rows work h = not (eqb (getD work h 0) 0) || points-back H rows h

@@ -6,10 +6,10 @@ ghost use Prim.Native.Nat.{ℕ, _<_, _≤_};
 ghost use lib.Dec.{eqb};
 ghost use lib.ListN.{length, getD};
 ghost use Rattle.numbers.specs.Next.{most-halfedges};
-ghost use Rattle.numbers.specs.Numbers.{halfedgeNumber, names};
+ghost use Rattle.numbers.specs.Numbers.{halfedgeNumber, halfedgeNamed, names};
 ghost use Rattle.rows.specs.Halfedges.{pairOf, lent-halfedges};
 ghost use Rattle.net.specs.Net.{net};
-ghost use Rattle.owners.specs.Tests.{all-below, those-below, is-back, points-back, met-or-back};
+ghost use Rattle.owners.specs.Tests.{all-below, those-below, is-back, points-back, turns-to, met-or-back};
 ghost use Rattle.owners.specs.Tests.{eligible as is-eligible};
 ghost use Rattle.owners.specs.Scan.{outcome, listed, scan, orbitOwners, ownersSaid, InUse, Back};
 ghost use Rattle.owners.specs.Marks.{Left, Marked, Stepped, Scanned, Owned};
@@ -69,6 +69,20 @@ fn is_paired_back(rows: &[i32], h: Halfedge, halfedges: usize) -> bool
     }
 }
 
+// Where h turns to, if its pair is there and points back.
+fn turned(rows: &[i32], h: Halfedge, halfedges: usize) -> NamedHalfedge
+    requires { ⌜ InUse halfedges (now rows) × (halfedgeNumber h < halfedges) ⌝ }
+    ensures { λ r. ⌜ halfedgeNamed r ≡ turns-to halfedges (now (rows .entry)) (halfedgeNumber h) ⌝ }
+{
+    let NamedHalfedge::At(p) = rows::halfedges::pair_of(rows, h, halfedges) else {
+        return NamedHalfedge::Nothing;
+    };
+    if !is_pair(rows, p, h, halfedges) {
+        return NamedHalfedge::Nothing;
+    }
+    NamedHalfedge::At(p.next())
+}
+
 // Walks the fan of i: marks i as its owner and the others as met. Whether it closes, over pairs that point back.
 fn mark_fan(rows: &[i32], work: &mut [u8], halfedges: usize, i: Halfedge) -> bool
     requires { ⌜ InUse halfedges (now rows) × ((halfedgeNumber i < halfedges) × (halfedges ≤ length (now work))) ⌝ }
@@ -79,13 +93,10 @@ fn mark_fan(rows: &[i32], work: &mut [u8], halfedges: usize, i: Halfedge) -> boo
     let mut c = i;
     let mut left = halfedges;
     while left > 0 {
-        let NamedHalfedge::At(p) = rows::halfedges::pair_of(rows, c, halfedges) else {
+        let NamedHalfedge::At(turn) = turned(rows, c, halfedges) else {
             return false;
         };
-        if !is_pair(rows, p, c, halfedges) {
-            return false;
-        }
-        c = p.next();
+        c = turn;
         let here = c.number();
         if here == home {
             work[here] = OWNER;
