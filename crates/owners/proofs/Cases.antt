@@ -26,26 +26,23 @@ pub record Case : Type 0 where
 abbrev sevens : ℕ → List ℕ
 sevens n = replicate n 7
 
--- these are listed; there are no owners; it is refused, and all is as at entry
-abbrev found : Eligible → ℕ → List ℤ → List ℕ → Case
-found e h r l = record {
+-- past the checks, with what is said and the list then: these are listed, or there are no owners; else it is refused, and all is as at
+-- entry
+abbrev past : Eligible → ℕ → List ℤ → Said → List ℕ → Case
+past e h r s l = record {
   choice = e;
   halfedges = h;
   rows = r;
   work = sevens (h + 1);
   list = sevens h;
-  comes = outcome (done (whole (pos (length l)) ∷ [])) (replicate h 0 ++ sevens 1) (l ++ sevens (h - length l));
+  comes = outcome s (replicate h 0 ++ sevens 1) l;
 }
 
+abbrev found : Eligible → ℕ → List ℤ → List ℕ → Case
+found e h r l = past e h r (done (whole (pos (length l)) ∷ [])) (l ++ sevens (h - length l))
+
 abbrev none : Eligible → ℕ → List ℤ → Case
-none e h r = record {
-  choice = e;
-  halfedges = h;
-  rows = r;
-  work = sevens (h + 1);
-  list = sevens h;
-  comes = outcome no-owners (replicate h 0 ++ sevens 1) (sevens h);
-}
+none e h r = past e h r no-owners (sevens h)
 
 abbrev refused : Said → ℕ → List ℤ → ℕ → ℕ → Case
 refused s h r w l = record { choice = E.Start; halfedges = h; rows = r; work = sevens w; list = sevens l; comes = outcome s (sevens w) (sevens l) }
