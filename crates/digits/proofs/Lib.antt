@@ -3,3 +3,4 @@ pub mod Turns
 pub mod Glyphs
 pub mod Right
 pub mod Cases
+pub mod Quoted

@@ -11,13 +11,14 @@ use lib.IntN.{ℤ, pos, _-ℤ_}
 use Rattle.laws.proofs.Stretches.{drop-more}
 use Rattle.laws.proofs.Tests.{by-test}
 use native.Mathlib.Numerals.{add-one}
-use lib.ListN.{length, take, drop, getD, set, length-append, length-set, drop-of-length-le}
+use lib.ListN.{length, take, drop, getD, set, length-append, length-set, drop-of-length-le, take-append-drop}
 use lib.Seq.{paste, paste-zero, paste-suc, take-paste, drop-paste, take-all, drop-cons, getD-take, length-take-le}
 use Rattle.io.specs.Digits.{digits, Fewest}
 use Rattle.digits.specs.Written.{comma, minus, glyph, decimal, signed}
 use Rattle.digits.proofs.Glyphs.{decimal-one, decimal-more}
 use Rattle.rows.specs.Halfedges.{is-paired}
-use Rattle.report.specs.Report.{Appended, one, commas, behind-commas, live-halfedges, live-triangles}
+use Rattle.report.specs.declared.Outcome.the-variants as O
+use Rattle.report.specs.Report.{Appended, line, answer-word, added-word, steps-word, visit-word, euler-word, text-of, one, commas, behind-commas, live-halfedges, live-triangles}
 
 pub appended-on : {a b c : List ℕ} {u v w : ℕ} {x y : List ℕ} → Appended a u x b v → Appended b v y c w → Appended a u (x ++ y) c w
 appended-on {a} {b} {c} {u} {v} {w} {x} {y} p q = record {
@@ -31,6 +32,26 @@ appended-none a u = record { count = omega arith; text = sym (append-nil (take u
 
 pub appended-as : {a b : List ℕ} {u v : ℕ} {x y : List ℕ} → Appended a u x b v → x ≡ y → Appended a u y b v
 appended-as p e = rw (← e) p
+
+-- the buffer, whole; so two results that a contract allows agree
+pub appended-is : {a b : List ℕ} {u v : ℕ} {x : List ℕ} → Appended a u x b v → b ≡ (take u a ++ x) ++ drop v a
+appended-is {a} {b} {u} {v} p = sym (take-append-drop v b) ∙ rw (p .text, p .rest)
+
+pub appended-agree : {a b c : List ℕ} {u v w : ℕ} {x : List ℕ} → Appended a u x b v → Appended a u x c w → (v ≡ w) × (b ≡ c)
+appended-agree {a} {b} {c} {u} {v} {w} {x} p q =
+    let e : v ≡ w = p .count ∙ sym (q .count) in
+    (e, appended-is p ∙ ap (λ (k : ℕ). (take u a ++ x) ++ drop k a) e ∙ sym (appended-is q))
+
+-- the lines of a split that was done
+pub done-text : (added steps : ℕ) (visit : List ℕ) (z : ℤ) {a b c d e f : List ℕ} {u v w x y : ℕ}
+    → Appended a 0 (line answer-word (decimal 0)) b u
+    → Appended b u (line added-word (decimal added)) c v
+    → Appended c v (line steps-word (decimal steps)) d w
+    → Appended d w (line visit-word (commas (take steps visit))) e x
+    → Appended e x (line euler-word (signed z)) f y
+    → Appended a 0 (text-of (O.Done added steps) visit z) f y
+unfolding text-of
+done-text added steps visit z p q r s t = appended-on p (appended-on q (appended-on r (appended-on s t)))
 
 -- the loop that puts bytes: the first i of s behind the bytes of d that are in use
 pub record Pasting (s d₀ : List ℕ) (used : ℕ) (d : List ℕ) (i : ℕ) : Type 0 where

@@ -32,6 +32,7 @@ use Rattle.meshfile.proofs.Told.{found-exactly, read-agree}
 use Rattle.report.specs.declared.Outcome.{Outcome}
 use Rattle.report.specs.declared.Outcome.the-variants as O
 use Rattle.report.specs.Report.{euler, text-of, Appended, Listed}
+use Rattle.report.proofs.Texts.{appended-is}
 use Rattle.splitfile.specs.Printed.{outcome-of, vertices-after, no-halfedges, no-positions, counts, lent, no-work, no-visit, split-with, text-after, reportOf, printed}
 
 -- what `report` asks of an outcome
@@ -133,4 +134,4 @@ put-front {before} {after} {bytes} {text} {r} p e = λ i. (count i, all i)
     count = omega (arith, p .count, ap length e)
 
     all : after ≡ text ++ drop (length text) before
-    all = sym (take-append-drop r after) ∙ rw (p .text, p .rest, e, count)
+    all = appended-is p ∙ rw (e, count)

@@ -1,7 +1,7 @@
 -- `report::put_done` meets its contract: line by line.
 use native.Mathlib.Omega.{arith}
-use Rattle.report.specs.Report.{text-of}
-use Rattle.report.proofs.Texts.{appended-on}
+use Rattle.report.specs.Report.{euler}
+use Rattle.report.proofs.Texts.{done-text}
 use borrow.Author.Needs.{needs}
 use Rattle.report.proofs.put_done.Statement.{statement}
 use Rattle.report.proofs.put_done.Tie as tie
@@ -34,8 +34,7 @@ same-length : tie.Need-same-length
 same-length c = search needs
 
 returns : tie.Need-returns
-unfolding text-of
-returns c = (appended-on (c .before .before .before .before .before .before .before .before .before .before .before .before .before .before .before .before .before .before .before .before .put-line .ensures .0) (appended-on (c .before .before .before .before .before .before .before .before .before .before .before .before .before .before .before .put-line2 .ensures .0) (appended-on (c .before .before .before .before .before .before .before .before .before .before .put-line3 .ensures .0) (appended-on (c .before .before .before .before .before .before .put-visit-line .ensures .0) (c .before .before .put-euler-line .ensures .0)))), omega (arith, c .before .before .before .before .before .before .before .before .before .before .before .before .before .before .before .before .before .before .before .before .before .before .before .before .before .pre .1 .0, c .before .before .before .before .before .before .before .before .before .before .before .before .before .before .before .before .before .before .before .before .put-line .ensures .1, c .before .before .before .before .before .before .before .before .before .before .before .before .before .before .before .put-line2 .ensures .1, c .before .before .before .before .before .before .before .before .before .before .put-line3 .ensures .1, c .before .before .before .before .before .before .put-visit-line .ensures .1, c .before .before .put-euler-line .ensures .1))
+returns c = (done-text (c .before .before .before .before .before .before .before .before .before .before .before .before .before .before .before .before .before .before .before .before .before .before .before .before .before .args .added) (c .before .before .before .before .before .before .before .before .before .before .before .before .before .before .before .before .before .before .before .before .before .before .before .before .before .args .steps) (c .before .before .before .before .before .before .before .before .before .before .before .before .before .before .before .before .before .before .before .before .before .before .before .before .before .args .visit .now) (euler (c .before .before .before .before .before .before .before .before .before .before .before .before .before .before .before .before .before .before .before .before .before .before .before .before .before .args .vertices) (c .before .before .before .before .before .before .before .before .before .before .before .before .before .before .before .before .before .before .before .before .before .before .before .before .before .args .triangles) (c .before .before .before .before .before .before .before .before .before .before .before .before .before .before .before .before .before .before .before .before .before .before .before .before .before .args .rows .now)) (c .before .before .before .before .before .before .before .before .before .before .before .before .before .before .before .before .before .before .before .before .put-line .ensures .0) (c .before .before .before .before .before .before .before .before .before .before .before .before .before .before .before .put-line2 .ensures .0) (c .before .before .before .before .before .before .before .before .before .before .put-line3 .ensures .0) (c .before .before .before .before .before .before .put-visit-line .ensures .0) (c .before .before .put-euler-line .ensures .0), omega (arith, c .before .before .before .before .before .before .before .before .before .before .before .before .before .before .before .before .before .before .before .before .before .before .before .before .before .pre .1 .0, c .before .before .before .before .before .before .before .before .before .before .before .before .before .before .before .before .before .before .before .before .put-line .ensures .1, c .before .before .before .before .before .before .before .before .before .before .before .before .before .before .before .put-line2 .ensures .1, c .before .before .before .before .before .before .before .before .before .before .put-line3 .ensures .1, c .before .before .before .before .before .before .put-visit-line .ensures .1, c .before .before .put-euler-line .ensures .1))
 
 pub put-done-spec : {M : Type 1} → statement M
 put-done-spec =
