@@ -3,4 +3,5 @@ pub mod Lines
 pub mod Right
 pub mod Laid
 pub mod Told
+pub mod Front
 pub mod Cases

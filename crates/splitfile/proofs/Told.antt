@@ -1,10 +1,13 @@
--- Two results that the contract of `split_file` allows agree; and the bytes that it says it put are in the buffer.
+-- Two results that the contract of `split_file` allows agree; the bytes that it says it put are in the buffer; and the front of a file
+-- decides the report of the whole.
 use mathlib.Core.Path.{_≡_, sym, ap, _∙_}
 use mathlib.Core.List.{List}
 use Prim.Native.Nat.{ℕ, _≤_}
 use native.Mathlib.Omega.{arith}
-use lib.ListN.{length, drop, length-append}
-use Rattle.splitfile.specs.Printed.{reportOf, printed}
+use lib.ListN.{length, take, drop, length-append}
+use Rattle.meshfile.specs.Told.{limits-of}
+use Rattle.meshfile.proofs.Front.{front-found}
+use Rattle.splitfile.specs.Printed.{no-halfedges, no-positions, text-found, reportOf, printed}
 
 pub file-agree : (file buffer : List ℕ) (a b : ℕ × List ℕ) → a ≡ printed (reportOf file) buffer → b ≡ printed (reportOf file) buffer → a ≡ b
 file-agree file buffer a b p q = p ∙ sym q
@@ -17,3 +20,8 @@ printed-within file buffer {r} {after} e =
       ap (λ (x : ℕ × List ℕ). length (x .1)) e,
       length-append (reportOf file) (drop (length (reportOf file)) buffer),
     )
+
+-- 65,536 bytes of a file are enough
+pub front-enough : (file : List ℕ) (n : ℕ) → 65536 ≤ n → reportOf (take n file) ≡ reportOf file
+unfolding reportOf
+front-enough file n long = ap text-found (front-found (limits-of no-halfedges no-positions) (omega arith) (omega arith) n long file)
