@@ -1,6 +1,6 @@
 //! The comparison: every entry beside the original Rust and a second reading of document 01, bit for bit in everything lent.
 //!
-//! harness smoke|quick|whole [SEED]: the comparison, in three sizes
+//! harness smoke|quick|whole [SEED [ENTRY]]: the comparison, in three sizes; of one entry, the same calls of it alone
 //! harness replay DIR [SEED]: writes the calls of the gate's program `replay` and what it must print
 
 mod chance;
@@ -49,16 +49,20 @@ impl Line {
 
 struct Table {
     lines: Vec<Line>,
+    only: Option<usize>,
     began: Instant,
     shown: Instant,
 }
 
 impl Table {
-    fn new() -> Table {
-        Table { lines: ALL.iter().map(|_| Line::default()).collect(), began: Instant::now(), shown: Instant::now() }
+    fn new(only: Option<usize>) -> Table {
+        Table { lines: ALL.iter().map(|_| Line::default()).collect(), only, began: Instant::now(), shown: Instant::now() }
     }
 
     fn run(&mut self, which: usize, net: &Lent, asked: &Asked) {
+        if self.only.is_some_and(|only| only != which) {
+            return;
+        }
         self.lines[which].take(&ALL[which], which, net, asked);
         if self.shown.elapsed().as_secs() >= 5 {
             self.shown = Instant::now();
@@ -116,23 +120,28 @@ fn main() {
 }
 
 fn called(words: &[String]) {
-    let seed = words.last().and_then(|w| w.parse().ok()).unwrap_or(1);
+    let seed = words.iter().skip(2).find_map(|w| w.parse().ok()).unwrap_or(1);
     let chance = &mut Chance::new(seed);
+    let only = || words.get(3).map(|name| entry_named(name));
     match words.get(1).map(String::as_str) {
-        Some("quick") => compare(1, chance),
-        Some("whole") => compare(10, chance),
-        Some("smoke") => compare(0, chance),
+        Some("quick") => compare(1, only(), chance),
+        Some("whole") => compare(10, only(), chance),
+        Some("smoke") => compare(0, only(), chance),
         Some("replay") if words.len() > 2 => replay::write(std::path::Path::new(&words[2]), chance),
         _ => {
-            eprintln!("harness smoke|quick|whole|replay DIR [SEED]");
+            eprintln!("harness smoke|quick|whole [SEED [ENTRY]], harness replay DIR [SEED]");
             std::process::exit(2);
         }
     }
 }
 
+fn entry_named(name: &str) -> usize {
+    ALL.iter().position(|e| e.name == name).expect("an entry's name")
+}
+
 /// `times` is the size: 1 quick, 10 whole, 0 a few calls of each kind (for a run under memcheck).
-fn compare(times: usize, chance: &mut Chance) {
-    let table = &mut Table::new();
+fn compare(times: usize, only: Option<usize>, chance: &mut Chance) {
+    let table = &mut Table::new(only);
     // how much each entry is asked of each of many nets that are nearly the same
     let few = if times > 1 { 3 } else { 2 };
 
@@ -147,7 +156,10 @@ fn compare(times: usize, chance: &mut Chance) {
     if times > 1 {
         table.stage("every number of 32 bits");
         for (name, every) in entries::EVERY_NUMBER {
-            let which = ALL.iter().position(|e| e.name == *name).expect("an entry's name");
+            let which = entry_named(name);
+            if only.is_some_and(|only| only != which) {
+                continue;
+            }
             for h in i32::MIN..=i32::MAX {
                 if h & 0x1FFF_FFFF == 0 {
                     eprintln!("  {name} from {h}");
@@ -274,11 +286,11 @@ fn bounds(table: &mut Table, every: bool, chance: &mut Chance) {
 
 fn report(table: &Table) {
     let (mut passed, mut failed) = (0, 0);
-    println!("{:<16}{:>12}{:>12}{:>12}  refused by number", "entry", "calls", "done", "differences");
+    println!("{:<20}{:>12}{:>12}{:>12}  refused by number", "entry", "calls", "done", "differences");
     for (entry, line) in ALL.iter().zip(&table.lines) {
         let refused: Vec<String> =
             (1..12).filter(|&n| line.by_number[n] > 0).map(|n| format!("{n}: {}", line.by_number[n])).collect();
-        println!("{:<16}{:>12}{:>12}{:>12}  {}", entry.name, line.calls, line.by_number[0], line.differences, refused.join(", "));
+        println!("{:<20}{:>12}{:>12}{:>12}  {}", entry.name, line.calls, line.by_number[0], line.differences, refused.join(", "));
         passed += line.calls - line.differences;
         failed += line.differences;
     }
