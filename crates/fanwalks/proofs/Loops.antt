@@ -1,86 +1,94 @@
 -- The loops that walk about a vertex, turn by turn: what is still to be walked, put to what is done, is the whole walk. One law for
--- each thing that a walk leaves: flags, the list of visits, new starts and ends.
+-- each thing that a walk leaves: the order of the visits, new starts and ends.
 use mathlib.Core.Path.{_≡_, refl, sym, ap, _∙_, subst}
-use mathlib.Core.List.{List, _∷_}
-use Prim.Native.Nat.{ℕ, _+_, _-_, _≤_, _<_}
+use mathlib.Core.Logic.{_⊎_, inl, inr, _≢_}
+use mathlib.Core.Bool.{Bool}
+use mathlib.Core.List.{List, [], _∷_}
+use Prim.Native.Nat.{ℕ, _+_, _-_, _<_}
 use native.Mathlib.Numerals.{add-one}
 use native.Mathlib.Omega.{arith}
-use lib.IntN.{ℤ}
-use lib.ListN.{length, set, length-set}
-use lib.Seq.{sets}
+use lib.IntN.{ℤ, natAbs}
+use lib.ListN.{length, length-set}
+use Rattle.numbers.specs.Numbers.{names, at}
+use Rattle.numbers.specs.Next.{next}
+use Rattle.numbers.proofs.Names.{names-is}
 use Rattle.rows.specs.Halfedges.{pairOf}
 use Rattle.net.specs.Sound.{turn, Live}
 use Rattle.turning.specs.Walk.{walk, walk-end}
 use Rattle.turning.proofs.Walk.{Left, walk-step, walk-end-step, walk-none, walk-end-none, walk-some}
 use Rattle.splitting.specs.Needs.{Round}
-use Rattle.splitting.specs.Steps.{flag-walk, relabel, relabel-walk}
+use Rattle.splitting.specs.Steps.{relabel, relabel-walk}
+use Rattle.ordering.specs.Order.{see, place, told, entry-of, order-walk}
+use Rattle.ordering.specs.Needs.{FanOrder}
+use Rattle.ordering.proofs.Walks.{entry-home, entry-elsewhere}
 use Rattle.splitting.proofs.Net.{same-turn}
 use Rattle.splitting.proofs.Rows.{length-relabel, relabel-pair}
 
--- ---- flags, and where the walk ends
-pub record Flagging (rows : List ℤ) (H i : ℕ) (work₀ work : List ℕ) (c left : ℕ) : Type 0 where
+-- the next of what a pair names is one turn on
+pub turned-from : (rows : List ℤ) (H c p r : ℕ) → names (pairOf rows c) H ≡ at p → r ≡ next p → r ≡ turn rows c
+turned-from rows H c p r e f = f ∙ ap next (sym (ap natAbs (names-is (pairOf rows c) H e)))
+
+-- ---- the order, and where the walk ends
+pub record Ordering (rows : List ℤ) (H i : ℕ) (first : Bool) (steps : ℕ) (work₀ work : List ℕ) (c k left : ℕ) : Type 0 where
   pub live : Live H rows c
-  pub works : flag-walk (walk (turn rows) left i c) work ≡ flag-walk (walk (turn rows) H i i) work₀
+  pub works : order-walk first i k (walk (turn rows) left i c) work ≡ order-walk first i steps (walk (turn rows) H i i) work₀
   pub ends : walk-end (turn rows) left i c ≡ walk-end (turn rows) H i i
+  pub places : k + length (walk (turn rows) left i c) ≡ steps + length (walk (turn rows) H i i)
   pub work-len : length work ≡ length work₀
+  pub away : (c ≢ i) ⊎ (left ≡ H)
 
-module _ {rows : List ℤ} {H i : ℕ} {work₀ : List ℕ} where
-  pub flagging-begins : Live H rows i → Flagging rows H i work₀ work₀ i H
-  flagging-begins l = record { live = l; works = refl; ends = refl; work-len = refl }
+module _ {rows : List ℤ} {H i : ℕ} {first : Bool} {steps : ℕ} {work₀ : List ℕ} (Q : FanOrder H rows work₀ i steps) where
+  pub ordering-begins : Ordering rows H i first steps work₀ work₀ i steps H
+  ordering-begins = record { live = Q .live; works = refl; ends = refl; places = refl; work-len = refl; away = inr refl }
 
-  pub flagging-on : {work : List ℕ} {c left : ℕ} → Round H rows → Flagging rows H i work₀ work c left → 0 < left → (c′ left′ : ℕ) → c′ ≡ turn rows c → Left i left c′ left′
-      → Flagging rows H i work₀ (set work c′ 1) c′ left′
-  unfolding flag-walk
-  flagging-on {work} {c} {left} R F b c′ left′ e s =
-      subst (λ x. Flagging rows H i work₀ (set work x 1) x left′) (sym e) (record {
-        live = R .goes (F .live);
-        works = ap (λ l. flag-walk l work) (sym (walk-step (turn rows) left i c left′ b t)) ∙ F .works;
-        ends = sym (walk-end-step (turn rows) left i c left′ b t) ∙ F .ends;
-        work-len = length-set work (turn rows c) 1 ∙ F .work-len;
-      })
-    where
-      t : Left i left (turn rows c) left′
-      t = subst (λ x. Left i left x left′) e s
+  module _ {work : List ℕ} {c k left : ℕ} (L : Ordering rows H i first steps work₀ work c k left) where
+    -- the fan closes, so a walk that has no turns left is home
+    pub ordering-never : left ≡ 0 → ⊥
+    ordering-never e = go (L .away)
+      where
+        go : (c ≢ i) ⊎ (left ≡ H) → ⊥
+        go (inl n) = n (sym (walk-end-none (turn rows) left i c e) ∙ L .ends ∙ Q .closes)
+        go (inr z) = omega (arith, Q .live .in-use)
 
-  pub flagging-done : {work : List ℕ} {c left : ℕ} → Flagging rows H i work₀ work c left → left ≡ 0 → work ≡ flag-walk (walk (turn rows) H i i) work₀
-  unfolding flag-walk
-  flagging-done {work} {c} {left} F e = ap (λ l. flag-walk l work) (sym (walk-none (turn rows) left i c e)) ∙ F .works
+    module _ (b : 0 < left) where
+      pub ordering-place : k < H
+      ordering-place = omega (arith, L .places, Q .fits, walk-some (turn rows) left i c b)
 
-  pub flagging-ends : {work : List ℕ} {c left : ℕ} → Flagging rows H i work₀ work c left → left ≡ 0 → c ≡ walk-end (turn rows) H i i
-  flagging-ends {work} {c} {left} F e = sym (walk-end-none (turn rows) left i c e) ∙ F .ends
+      module _ (c′ : ℕ) (e : c′ ≡ turn rows c) where
+        pub ordering-live : Live H rows c′
+        ordering-live = subst (Live H rows) (sym e) (Q .round .goes (L .live))
 
--- ---- the list of visits
-pub record Listing (rows : List ℤ) (H i steps : ℕ) (visit₀ visit : List ℕ) (c k left : ℕ) : Type 0 where
-  pub visits : sets visit k (walk (turn rows) left i c) ≡ sets visit₀ steps (walk (turn rows) H i i)
-  pub ends : k + length (walk (turn rows) left i c) ≡ steps + length (walk (turn rows) H i i)
-  pub visit-len : length visit ≡ length visit₀
+        -- one turn more of the walk
+        walk-on : (left′ : ℕ) → Left i left c′ left′ → walk (turn rows) left i c ≡ c′ ∷ walk (turn rows) left′ i c′
+        walk-on left′ s =
+            subst (λ x. walk (turn rows) left i c ≡ x ∷ walk (turn rows) left′ i x) (sym e)
+            (walk-step (turn rows) left i c left′ b (subst (λ x. Left i left x left′) e s))
 
-module _ {rows : List ℤ} {H i steps : ℕ} {visit₀ : List ℕ} where
-  pub listing-begins : Listing rows H i steps visit₀ visit₀ i steps H
-  listing-begins = record { visits = refl; ends = refl; visit-len = refl }
+        pub ordering-on : c′ ≢ i → (work′ : List ℕ) → work′ ≡ place k c′ (see c′ work) → Ordering rows H i first steps work₀ work′ c′ (k + 1) (left - 1)
+        unfolding order-walk
+        ordering-on n work′ q =
+            let u = walk-on (left - 1) (inr (n, refl)) in
+            record {
+              live = ordering-live;
+              works =
+                  ap (order-walk first i (k + 1) (walk (turn rows) (left - 1) i c′)) (q ∙ ap (λ x. place k x (see c′ work)) (sym (entry-elsewhere first i c′ n)))
+                  ∙ ap (λ m. order-walk first i m (walk (turn rows) (left - 1) i c′) (place k (entry-of first i c′) (see c′ work))) (add-one k)
+                  ∙ ap (λ l. order-walk first i k l work) (sym u) ∙ L .works;
+              ends =
+                  ap (walk-end (turn rows) (left - 1) i) e ∙ sym (walk-end-step (turn rows) left i c (left - 1) b (subst (λ x. Left i left x (left - 1)) e (inr (n, refl)))) ∙ L .ends;
+              places = omega (arith, L .places, ap length u);
+              work-len = ap length q ∙ length-set (see c′ work) k _ ∙ length-set work c′ _ ∙ L .work-len;
+              away = inl n;
+            }
 
-  pub listing-room : {visit : List ℕ} {c k left : ℕ} → Listing rows H i steps visit₀ visit c k left → steps + length (walk (turn rows) H i i) ≤ length visit₀
-      → 0 < left → k < length visit
-  listing-room {visit} {c} {k} {left} L f b = omega (arith, L .ends, L .visit-len, walk-some (turn rows) left i c b)
-
-  pub listing-on : {visit : List ℕ} {c k left : ℕ} → Listing rows H i steps visit₀ visit c k left → 0 < left
-      → (c′ left′ : ℕ) → c′ ≡ turn rows c → Left i left c′ left′ → Listing rows H i steps visit₀ (set visit k c′) c′ (k + 1) left′
-  listing-on {visit} {c} {k} {left} L b c′ left′ e s =
-      subst (λ x. Listing rows H i steps visit₀ (set visit k x) x (k + 1) left′) (sym e) (record {
-        visits = ap (λ m. sets (set visit k (turn rows c)) m (walk (turn rows) left′ i (turn rows c))) (add-one k) ∙ ap (λ l. sets visit k l) (sym u) ∙ L .visits;
-        ends = omega (arith, L .ends, ap length u);
-        visit-len = length-set visit k (turn rows c) ∙ L .visit-len;
-      })
-    where
-      u : walk (turn rows) left i c ≡ turn rows c ∷ walk (turn rows) left′ i (turn rows c)
-      u = walk-step (turn rows) left i c left′ b (subst (λ x. Left i left x left′) e s)
-
-  pub listing-done : {visit : List ℕ} {c k left : ℕ} → Listing rows H i steps visit₀ visit c k left → left ≡ 0
-      → (visit ≡ sets visit₀ steps (walk (turn rows) H i i)) × (k ≡ steps + length (walk (turn rows) H i i))
-  listing-done {visit} {c} {k} {left} L e = (
-    ap (λ l. sets visit k l) (sym (walk-none (turn rows) left i c e)) ∙ L .visits,
-    omega (arith, L .ends, ap length (walk-none (turn rows) left i c e)),
-  )
+        pub ordering-home : c′ ≡ i → (work′ : List ℕ) → work′ ≡ place k (told first c′) (see c′ work)
+            → (work′ ≡ order-walk first i steps (walk (turn rows) H i i) work₀) × (k + 1 ≡ steps + length (walk (turn rows) H i i))
+        unfolding order-walk
+        ordering-home n work′ q =
+            let u : walk (turn rows) left i c ≡ c′ ∷ [] = walk-on 0 (inl (n, refl)) ∙ ap (λ l. c′ ∷ l) (walk-none (turn rows) 0 i c′ refl) in (
+              q ∙ ap (λ x. place k x (see c′ work)) (sym (entry-home first i c′ n)) ∙ ap (λ l. order-walk first i k l work) (sym u) ∙ L .works,
+              omega (arith, L .places, ap length u),
+            )
 
 -- ---- new starts and ends: the rows change under the walk, and their pairs do not
 pub record Relabelling (H i x : ℕ) (rows₀ rows : List ℤ) (c left : ℕ) : Type 0 where

@@ -1,16 +1,18 @@
 // Walks about a vertex: what splitting pinched vertices does to one fan. A walk makes at most as many turns as there are half-edges,
 // and stops at home.
 ghost use mathlib.Core.Path.{_≡_};
-ghost use Prim.Native.Nat.{_+_, _<_, _≤_, _^_};
+ghost use Prim.Native.Nat.{_+_, _<_, _^_};
 ghost use lib.Dec.{eqb};
 ghost use lib.ListN.{length, getD, set};
-ghost use lib.Seq.{sets};
 ghost use Rattle.numbers.specs.Numbers.{halfedgeNumber, vertexNumber};
 ghost use Rattle.rows.specs.Triples.{lent-triples, triple, put-triple};
 ghost use Rattle.net.specs.Sound.{partner, turn, Live};
-ghost use Rattle.turning.specs.Walk.{walk, walk-end};
+ghost use Rattle.turning.specs.Walk.{walk};
 ghost use Rattle.splitting.specs.Needs.{Round};
-ghost use Rattle.splitting.specs.Steps.{flag-walk, relabel, relabel-walk};
+ghost use Rattle.splitting.specs.Steps.{relabel, relabel-walk};
+ghost use Rattle.ordering.specs.Order.{walked-bit, copy-bit, see, place, is-walked, entry, told, order-walk};
+ghost use Rattle.ordering.specs.Needs.{FanOrder};
+ghost use Rattle.fanwalks.specs.declared.Behind.the-variants as B;
 use numbers::Halfedge;
 use numbers::NamedHalfedge;
 use numbers::Vertex;
@@ -34,60 +36,95 @@ fn turn_of(rows: &[i32], h: Halfedge, halfedges: usize) -> Halfedge
     partner_of(rows, h, halfedges).next()
 }
 
-// Flags each half-edge of the fan of i. Whether the fan closed.
-pub fn flag_fan(rows: &[i32], work: &mut [u32], halfedges: usize, i: Halfedge) -> bool
-    requires { ⌜ Round halfedges (now rows) × (Live halfedges (now rows) (halfedgeNumber i) × (halfedges ≤ length (now work))) ⌝ }
-    ensures { λ r. ⌜ (now (work .exit) ≡ flag-walk (walk (turn (now (rows .entry))) halfedges (halfedgeNumber i) (halfedgeNumber i)) (now (work .entry)))
-        × (r ≡ eqb (walk-end (turn (now (rows .entry))) halfedges (halfedgeNumber i) (halfedgeNumber i)) (halfedgeNumber i)) ⌝ }
+// The bits of an entry of the work buffer, beside the half-edge that it names.
+const WALKED: u32 = 2147483648;
+
+const COPY: usize = 1073741824;
+
+// Sets the walked bit of half-edge h.
+fn see(work: &mut [u32], h: usize)
+    requires { ⌜ h < length (now work) ⌝ }
+    ensures { λ _. ⌜ now (work .exit) ≡ see h (now (work .entry)) ⌝ }
 {
-    let home = i.number();
-    let mut c = i;
-    let mut left = halfedges;
-    while left > 0 {
-        c = turn_of(rows, c, halfedges);
-        let here = c.number();
-        work[here] = 1;
-        if here == home {
-            left = 0;
-        } else {
-            left -= 1;
-        }
-    }
-    c.number() == home
+    work[h] = work[h] % WALKED + WALKED;
 }
 
-// Flags each half-edge of the fan of i and lists it, behind `steps` others. How many are listed then.
-pub fn visit_fan(
+// Puts x at place k of the order.
+fn place(work: &mut [u32], k: usize, x: usize)
+    requires { ⌜ (k < length (now work)) × (x < walked-bit) ⌝ }
+    ensures { λ _. ⌜ now (work .exit) ≡ place k x (now (work .entry)) ⌝ }
+{
+    let old = work[k];
+    work[k] = old / WALKED * WALKED + x as u32;
+}
+
+// Whether the fan of h was walked.
+pub fn is_walked(work: &[u32], h: Halfedge) -> bool
+    requires { ⌜ halfedgeNumber h < length (now work) ⌝ }
+    ensures { λ r. ⌜ r ≡ is-walked (now (work .entry)) (halfedgeNumber h) ⌝ }
+{
+    let i = h.number();
+    work[i] >= WALKED
+}
+
+// What stands at place k of the order.
+pub fn entry_at(work: &[u32], k: usize) -> usize
+    requires { ⌜ k < length (now work) ⌝ }
+    ensures { λ r. ⌜ r ≡ entry (now (work .entry)) k ⌝ }
+{
+    (work[k] % WALKED) as usize
+}
+
+// The last half-edge of a fan, as it is put into the order.
+fn told(first: bool, c: usize) -> usize
+    requires { ⌜ c < copy-bit ⌝ }
+    ensures { λ r. ⌜ r ≡ told first c ⌝ }
+{
+    if first {
+        return c;
+    }
+    c + COPY
+}
+
+// Where the order goes on behind a fan, or that the fan does not close.
+pub enum Behind {
+    At(usize),
+    Unclosed,
+}
+
+// Puts the half-edges of the fan of i into the order, from place `steps` on. That the fan does not close cannot come here.
+pub fn order_fan(
     rows: &[i32],
     work: &mut [u32],
-    visit: &mut [u32],
     halfedges: usize,
     i: Halfedge,
+    first: bool,
     steps: usize,
-) -> usize
-    requires { ⌜ Round halfedges (now rows) × (Live halfedges (now rows) (halfedgeNumber i) × ((halfedges ≤ length (now work))
-        × (steps + length (walk (turn (now rows)) halfedges (halfedgeNumber i) (halfedgeNumber i)) ≤ length (now visit)))) ⌝ }
-    ensures { λ r. ⌜ (now (work .exit) ≡ flag-walk (walk (turn (now (rows .entry))) halfedges (halfedgeNumber i) (halfedgeNumber i)) (now (work .entry)))
-        × ((now (visit .exit) ≡ sets (now (visit .entry)) steps (walk (turn (now (rows .entry))) halfedges (halfedgeNumber i) (halfedgeNumber i)))
-        × (r ≡ steps + length (walk (turn (now (rows .entry))) halfedges (halfedgeNumber i) (halfedgeNumber i)))) ⌝ }
+) -> Behind
+    requires { ⌜ FanOrder halfedges (now rows) (now work) (halfedgeNumber i) steps ⌝ }
+    ensures { λ r. ⌜ (now (work .exit) ≡ order-walk first (halfedgeNumber i) steps (walk (turn (now (rows .entry))) halfedges (halfedgeNumber i) (halfedgeNumber i)) (now (work .entry)))
+        × (r ≡ B.At (steps + length (walk (turn (now (rows .entry))) halfedges (halfedgeNumber i) (halfedgeNumber i)))) ⌝ }
 {
     let home = i.number();
     let mut c = i;
     let mut k = steps;
     let mut left = halfedges;
     while left > 0 {
-        c = turn_of(rows, c, halfedges);
+        let NamedHalfedge::At(p) = rows::halfedges::pair_of(rows, c, halfedges) else {
+            return Behind::Unclosed;
+        };
+        c = p.next();
         let here = c.number();
-        work[here] = 1;
-        visit[k] = here as u32;
-        k += 1;
+        see(work, here);
         if here == home {
-            left = 0;
-        } else {
-            left -= 1;
+            place(work, k, told(first, here));
+            return Behind::At(k + 1);
         }
+        place(work, k, here);
+        k += 1;
+        left -= 1;
     }
-    k
+    Behind::Unclosed
 }
 
 // Sets x on the start of c and the end of its partner.

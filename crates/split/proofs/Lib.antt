@@ -1,5 +1,4 @@
-pub mod Steps
-pub mod Outer
+pub mod Ways
 pub mod Stages
 pub mod Entry
 pub mod Agree

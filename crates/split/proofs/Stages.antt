@@ -1,21 +1,30 @@
--- The stages past the checks, put together: what clearing, counting and writing leave is the outcome.
+-- The stages past the checks, put together: what clearing, ordering and writing leave is the outcome.
 use mathlib.Core.Path.{_≡_, refl, sym, ap, _∙_, subst}
 use mathlib.Core.Bool.{cond}
 use mathlib.Core.List.{List}
 use Prim.Native.Nat.{ℕ, _+_, _-_, _≤_, _<_}
+use native.Mathlib.Nat.{le-refl}
 use native.Mathlib.Omega.{arith}
 use borrow.Author.Tests.{le-leb, lt-leb}
 use lib.Dec.{leb}
 use lib.IntN.{ℤ}
 use lib.ListN.{length, getD, drop}
-use Rattle.answers.specs.Answers.{open-fan, no-room}
+use Rattle.answers.specs.Answers.{Said, open-fan, no-room}
 use Rattle.rows.specs.Triples.{zero-triples}
 use Rattle.net.specs.Counts.{vertex-capacity-over}
 use Rattle.splitting.specs.Needs.{SoundRows}
 use Rattle.splitting.specs.Steps.{Tallied, tallied, unclosed, count, State, state, split-rows}
 use Rattle.splitting.specs.Split.{Outcome, outcome, cleared, done-with, all-split, by-room, by-count, split-sound}
+use Rattle.splitting.proofs.Net.{round-of}
 use Rattle.splitting.proofs.Clear.{length-cleared, cleared-zero, cleared-beyond, cleared-same}
-use Rattle.splitting.proofs.Told.{counts, counted-added}
+use Rattle.splitting.proofs.Told.{by-pass}
+use Rattle.ordering.specs.Order.{order, order-rows, Written, written, write-order}
+use Rattle.ordering.specs.Needs.{OrderNeeds}
+use Rattle.ordering.proofs.Along.{Along, along, visits-few}
+
+-- an outcome with the work buffer that is said
+pub with-work : (said : Said) (h : List ℤ) (p w w′ v : List ℕ) (o : Outcome) → w ≡ w′ → outcome said h p w′ v ≡ o → outcome said h p w v ≡ o
+with-work said h p w w′ v o e f = ap (λ x. outcome said h p x v) e ∙ f
 
 -- clearing twice
 pub cleared-twice : (n : ℕ) (work : List ℕ) → n ≤ length work → cleared n (cleared n work) ≡ cleared n work
@@ -41,9 +50,6 @@ module _ (H N : ℕ) (rows : List ℤ) (positions : List ℕ) where
       (outcome no-room rows (zero-triples N (vertex-capacity-over positions) positions) z visit))
       e
 
-  pub added-same : (work work′ visit : List ℕ) → cleared (H + N) work ≡ cleared (H + N) work′ → all-split H N rows positions work visit .added ≡ all-split H N rows positions work′ visit .added
-  added-same work work′ visit e = ap (λ z. split-rows H N H (state rows positions z visit 0 0) .added) e
-
   module _ (work visit : List ℕ) (clear : cleared (H + N) work ≡ work) (copies : ℕ) where
     -- no room
     pub refused-here : vertex-capacity-over positions - N < copies → (positions′ : List ℕ) → positions′ ≡ zero-triples N (vertex-capacity-over positions) positions
@@ -55,27 +61,59 @@ module _ (H N : ℕ) (rows : List ℤ) (positions : List ℕ) where
     pub run-here : split-rows H N H (state rows positions work visit 0 0) ≡ all-split H N rows positions work visit
     run-here = ap (λ z. split-rows H N H (state rows positions z visit 0 0)) (sym clear)
 
-    pub written-here : copies ≤ vertex-capacity-over positions - N → (s : State) → s ≡ split-rows H N H (state rows positions work visit 0 0) → drop (H + N) (s .work) ≡ drop (H + N) work
-        → (work′ : List ℕ) → work′ ≡ cleared (H + N) (s .work)
-        → outcome (done-with (s .added) (s .steps)) (s .halfedges) (s .positions) work′ (s .visit) ≡ by-room H N rows positions work visit copies
-    written-here l s e d work′ w =
-        (λ j. outcome (done-with (all j .added) (all j .steps)) (all j .halfedges) (all j .positions) (end j) (all j .visit))
+    pub written-here : copies ≤ vertex-capacity-over positions - N → (s : State) → s ≡ split-rows H N H (state rows positions work visit 0 0)
+        → outcome (done-with (s .added) (s .steps)) (s .halfedges) (s .positions) work (s .visit) ≡ by-room H N rows positions work visit copies
+    written-here l s e =
+        (λ j. outcome (done-with (all j .added) (all j .steps)) (all j .halfedges) (all j .positions) (sym clear j) (all j .visit))
         ∙ sym (rw (le-leb copies (vertex-capacity-over positions - N) l))
       where
         all : s ≡ all-split H N rows positions work visit
         all = e ∙ run-here
 
-        end : work′ ≡ cleared (H + N) work
-        end = w ∙ cleared-same (H + N) (s .work) work d
-
--- ---- the count of a sound net
-module _ {H N : ℕ} {rows : List ℤ} (positions work visit : List ℕ) (S : SoundRows H N rows) (long : H + N ≤ length work) where
-  pub counted-here : (w : List ℕ) (copies : ℕ) → tallied w copies ≡ count H N rows H (cleared (H + N) work) → all-split H N rows positions work visit .added ≡ copies
-  counted-here w copies e = counted-added positions work visit S long w copies (counts positions work visit S long (tallied w copies) (sym e))
-
-  pub never-open : unclosed ≡ count H N rows H (cleared (H + N) work) → ⊥
-  never-open e = counts positions work visit S long unclosed (sym e)
-
-  pub counted-so : (w : List ℕ) (copies : ℕ) → tallied w copies ≡ count H N rows H (cleared (H + N) work) → by-room H N rows positions work visit copies ≡ split-sound H N rows positions work visit
+  -- so does what is said of a sound net
+  pub sound-same : (work work′ visit : List ℕ) → cleared (H + N) work ≡ cleared (H + N) work′ → split-sound H N rows positions work visit ≡ split-sound H N rows positions work′ visit
   unfolding split-sound
-  counted-so w copies e = ap (by-count H N rows positions work visit) e
+  sound-same work work′ visit e = ap (by-count H N rows positions work visit) (ap (count H N rows H) e) ∙ go (count H N rows H (cleared (H + N) work′))
+    where
+      go : (t : Tallied) → by-count H N rows positions work visit t ≡ by-count H N rows positions work′ visit t
+      go (tallied w copies) = room-same work work′ visit copies e
+      go unclosed = ap (λ z. outcome open-fan rows positions z visit) e
+
+-- ---- a sound net over a cleared work buffer
+module _ {H N : ℕ} {rows : List ℤ} (positions work visit : List ℕ) (S : SoundRows H N rows) (long : H + N ≤ length work) (clear : cleared (H + N) work ≡ work) where
+  abbrev end : State
+  end = split-rows H N H (state rows positions work visit 0 0)
+
+  pub room-counted : by-room H N rows positions work visit (end .added) ≡ split-sound H N rows positions work visit
+  room-counted =
+      by-pass positions work visit S long
+      (λ added e f. ap (by-room H N rows positions work visit) (ap (λ (t : State). t .added) (run-here H N rows positions work visit clear 0) ∙ e) ∙ sym f)
+
+  module _ (work′ : List ℕ) (copies steps : ℕ) (o : order work′ copies steps ≡ order-rows H N rows H (order work 0 0)) where
+    pub goes : Along H N rows positions work visit H (order work′ copies steps) end
+    goes = subst (λ x. Along H N rows positions work visit H x end) (sym o) (along S long (reads-zero (H + N) work long clear) H (le-refl H))
+
+    pub steps-fit : steps ≤ H
+    steps-fit = omega (arith, goes .steps-same, goes .ok .steps-are, visits-few S long end (goes .ok))
+
+    pub full : vertex-capacity-over positions - N < copies → (positions′ : List ℕ) → positions′ ≡ zero-triples N (vertex-capacity-over positions) positions
+        → outcome no-room rows positions′ work visit ≡ split-sound H N rows positions work visit
+    full l positions′ e =
+        refused-here H N rows positions work visit clear copies l positions′ e ∙ ap (by-room H N rows positions work visit) (goes .added-same) ∙ room-counted
+
+    pub needs-met : H ≤ length visit → N ≤ vertex-capacity-over positions → copies ≤ vertex-capacity-over positions - N → OrderNeeds H N rows positions work′ visit steps
+    needs-met v n l = record {
+      round = round-of S;
+      lives = goes .lives;
+      work-long = omega (arith, steps-fit, goes .work-len);
+      visit-long = omega (arith, steps-fit);
+      room = omega (arith, goes .added-same, ap (λ (t : Written). t .added) (goes .wrote));
+    }
+
+    pub all-written : copies ≤ vertex-capacity-over positions - N → (rows′ : List ℤ) (positions′ visit′ : List ℕ) (added : ℕ)
+        → written rows′ positions′ visit′ added ≡ write-order H N work′ steps (written rows positions visit 0)
+        → outcome (done-with added steps) rows′ positions′ work visit′ ≡ split-sound H N rows positions work visit
+    all-written l rows′ positions′ visit′ added e =
+        let q = e ∙ goes .wrote in
+        (λ j. outcome (done-with (q j .added) (goes .steps-same j)) (q j .halfedges) (q j .positions) work (q j .visit))
+        ∙ written-here H N rows positions work visit clear copies l end refl ∙ ap (by-room H N rows positions work visit) (goes .added-same) ∙ room-counted

@@ -1,209 +1,152 @@
-// Splitting pinched vertices: the entry split_pinched_verts. Past the checks it runs over the half-edges twice. The first pass writes
-// only the work buffer, and finds whether every fan closes and how many vertices will be copied; so the second cannot fail.
+// Splitting pinched vertices: the entry split_pinched_verts. Past the checks the half-edges are put into the order of their visits, each
+// fan walked once. That writes only the work buffer, and finds whether every fan closes and how many vertices will be copied; so what
+// goes by the order afterwards, and writes the net, cannot fail.
 ghost use mathlib.Core.Path.{_≡_};
 ghost use Prim.Native.Nat.{ℕ, _+_, _<_, _≤_, _^_};
-ghost use native.Mathlib.Decide.{ℕ-discrete};
 ghost use lib.ListN.{length, getD, drop};
 ghost use Rattle.numbers.specs.Numbers.{halfedgeNumber, vertexNumber};
 ghost use Rattle.net.specs.Net.{net};
 ghost use Rattle.net.specs.Counts.{vertex-capacity-over};
-ghost use Rattle.net.specs.Sound.{turn, Live};
+ghost use Rattle.net.specs.Sound.{turn};
 ghost use Rattle.turning.specs.Walk.{walk};
-ghost use Rattle.splitting.specs.Needs.{SoundRows, Round};
-ghost use Rattle.splitting.specs.Steps.{count-fan, count-step, count, state, split-fan, split-step, split-rows};
-ghost use Rattle.splitting.specs.Split.{outcome, cleared, all-split, by-room, split-sound, splitPinched};
-ghost use Rattle.split.specs.Answer.{tally, reached, splitSaid};
-ghost use Rattle.split.specs.Needs.{FanNeeds, RowNeeds};
+ghost use Rattle.splitting.specs.Needs.{SoundRows};
+ghost use Rattle.splitting.specs.Split.{outcome, cleared, split-sound, splitPinched};
+ghost use Rattle.ordering.specs.Order.{order, order-fan, order-row, order-rows, written, write-entry, write-order};
+ghost use Rattle.ordering.specs.Needs.{FanOrder, RowOrder, EntryNeeds, OrderNeeds};
+ghost use Rattle.split.specs.Answer.{Gives, splitSaid};
+use fanwalks::Behind;
 use net::Counts;
 use numbers::Halfedge;
 use numbers::NamedHalfedge;
 use numbers::NamedVertex;
 use numbers::Vertex;
 
-// How many copies are counted, or that a fan does not close.
-enum Copies {
-    Counted(usize),
+// Copies counted and half-edges put into the order, or that a fan does not close.
+enum Ordered {
+    To(usize, usize),
     Unclosed,
 }
 
-// The fan of i, which starts at v, counted: one more copy, but for the first fan there.
-fn count_fan(
+// The fan of i, which starts at v, put into the order: one more copy, but for the first fan there.
+fn order_fan(
     rows: &[i32],
     work: &mut [u32],
     halfedges: usize,
     i: Halfedge,
     v: Vertex,
-    added: usize,
-) -> Copies
-    requires { ⌜ Round halfedges (now rows) × (Live halfedges (now rows) (halfedgeNumber i) × ((halfedges + vertexNumber v < length (now work)) × ((halfedges + vertexNumber v < 2 ^ 31) × (added < 2 ^ 31)))) ⌝ }
-    ensures { λ r. ⌜ tally r (now (work .exit)) ≡ count-fan halfedges (now (rows .entry)) (halfedgeNumber i) (vertexNumber v) (now (work .entry)) added ⌝ }
-{
-    let first = fanwalks::mark_vertex(work, halfedges, v);
-    if !fanwalks::flag_fan(rows, work, halfedges, i) {
-        return Copies::Unclosed;
-    }
-    if first {
-        return Copies::Counted(added);
-    }
-    Copies::Counted(added + 1)
-}
-
-// Half-edge i counted, where its fan was not met before.
-fn count_row(
-    rows: &[i32],
-    work: &mut [u32],
-    halfedges: usize,
-    vertices: usize,
-    i: Halfedge,
-    added: usize,
-) -> Copies
-    requires { ⌜ SoundRows halfedges vertices (now rows) × ((halfedgeNumber i < halfedges) × ((halfedges + vertices ≤ length (now work)) × (added ≤ halfedgeNumber i))) ⌝ }
-    ensures { λ r. ⌜ tally r (now (work .exit)) ≡ count-step halfedges vertices (now (rows .entry)) (halfedgeNumber i) (now (work .entry)) added ⌝ }
-{
-    if work[i.number()] != 0 {
-        return Copies::Counted(added);
-    }
-    match rows::halfedges::start_of(rows, i, vertices) {
-        NamedVertex::At(v) => count_fan(rows, work, halfedges, i, v, added),
-        NamedVertex::Nothing => Copies::Counted(added),
-    }
-}
-
-// The copies of all fans counted, over a cleared work buffer.
-fn count_rows(rows: &[i32], work: &mut [u32], halfedges: usize, vertices: usize) -> Copies
-    requires { ⌜ SoundRows halfedges vertices (now rows) × ((halfedges + vertices ≤ length (now work)) × ((k : ℕ) → k < halfedges + vertices → getD (now work) k 0 ≡ 0)) ⌝ }
-    ensures { λ r. ⌜ (tally r (now (work .exit)) ≡ count halfedges vertices (now (rows .entry)) halfedges (now (work .entry)))
-        × (drop (halfedges + vertices) (now (work .exit)) ≡ drop (halfedges + vertices) (now (work .entry))) ⌝ }
-{
-    let mut added = 0;
-    let mut i = 0;
-    while i < halfedges {
-        match count_row(
-            rows,
-            work,
-            halfedges,
-            vertices,
-            numbers::halfedge_counted(i),
-            added,
-        ) {
-            Copies::Counted(n) => {
-                added = n;
-            }
-            Copies::Unclosed => {
-                return Copies::Unclosed;
-            }
-        }
-        i += 1;
-    }
-    Copies::Counted(added)
-}
-
-// Vertices added and half-edges visited so far.
-struct SoFar {
     added: usize,
     steps: usize,
-}
-
-// The fan of i, which starts at v, visited: the first there keeps v, a later one gets a copy.
-fn split_fan(
-    rows: &mut [i32],
-    positions: &mut [u64],
-    work: &mut [u32],
-    visit: &mut [u32],
-    halfedges: usize,
-    vertices: usize,
-    i: Halfedge,
-    v: Vertex,
-    sofar: SoFar,
-) -> SoFar
-    requires { ⌜ FanNeeds halfedges vertices (now rows) (now positions) (now work) (now visit) (halfedgeNumber i) (vertexNumber v) (sofar .added) (sofar .steps) ⌝ }
-    ensures { λ r. ⌜ reached (now (rows .exit)) (now (positions .exit)) (now (work .exit)) (now (visit .exit)) r
-        ≡ split-fan halfedges vertices (vertexNumber v) (walk (turn (now (rows .entry))) halfedges (halfedgeNumber i) (halfedgeNumber i))
-        (reached (now (rows .entry)) (now (positions .entry)) (now (work .entry)) (now (visit .entry)) sofar) (ℕ-discrete (getD (now (work .entry)) (halfedges + vertexNumber v) 0) 0) ⌝ }
+) -> Ordered
+    requires { ⌜ FanOrder halfedges (now rows) (now work) (halfedgeNumber i) steps × ((halfedges + vertexNumber v < length (now work)) × ((halfedges + vertexNumber v < 2 ^ 31) × (added < 2 ^ 31))) ⌝ }
+    ensures { λ r. ⌜ Gives r (now (work .exit)) (order-fan halfedges (halfedgeNumber i) (vertexNumber v) (walk (turn (now (rows .entry))) halfedges (halfedgeNumber i) (halfedgeNumber i)) (order (now (work .entry)) added steps)) ⌝ }
 {
     let first = fanwalks::mark_vertex(work, halfedges, v);
-    let steps = fanwalks::visit_fan(rows, work, visit, halfedges, i, sofar.steps);
-    let added = sofar.added;
+    let Behind::At(k) = fanwalks::order_fan(rows, work, halfedges, i, first, steps) else {
+        return Ordered::Unclosed;
+    };
     if first {
-        return SoFar { added, steps };
+        return Ordered::To(added, k);
     }
-    fanwalks::copy_fan(rows, positions, halfedges, vertices + added, i, v);
-    SoFar {
-        added: added + 1,
-        steps,
-    }
+    Ordered::To(added + 1, k)
 }
 
-// Half-edge i split, where its fan was not met before.
-fn split_row(
-    rows: &mut [i32],
-    positions: &mut [u64],
+// Half-edge i and its fan, where that was not walked before.
+fn order_row(
+    rows: &[i32],
     work: &mut [u32],
-    visit: &mut [u32],
     halfedges: usize,
     vertices: usize,
     i: Halfedge,
-    sofar: SoFar,
-) -> SoFar
-    requires { ⌜ RowNeeds halfedges vertices (now rows) (now positions) (now work) (now visit) (halfedgeNumber i) (sofar .added) (sofar .steps) ⌝ }
-    ensures { λ r. ⌜ reached (now (rows .exit)) (now (positions .exit)) (now (work .exit)) (now (visit .exit)) r
-        ≡ split-step halfedges vertices (halfedgeNumber i) (reached (now (rows .entry)) (now (positions .entry)) (now (work .entry)) (now (visit .entry)) sofar) ⌝ }
+    added: usize,
+    steps: usize,
+) -> Ordered
+    requires { ⌜ RowOrder halfedges vertices (now rows) (now work) (halfedgeNumber i) added steps ⌝ }
+    ensures { λ r. ⌜ Gives r (now (work .exit)) (order-row halfedges vertices (now (rows .entry)) (halfedgeNumber i) (order (now (work .entry)) added steps)) ⌝ }
 {
-    if work[i.number()] != 0 {
-        return sofar;
+    if fanwalks::is_walked(work, i) {
+        return Ordered::To(added, steps);
     }
     match rows::halfedges::start_of(rows, i, vertices) {
-        NamedVertex::At(v) => split_fan(
-            rows,
-            positions,
-            work,
-            visit,
-            halfedges,
-            vertices,
-            i,
-            v,
-            sofar,
-        ),
-        NamedVertex::Nothing => sofar,
+        NamedVertex::At(v) => order_fan(rows, work, halfedges, i, v, added, steps),
+        NamedVertex::Nothing => Ordered::To(added, steps),
     }
 }
 
-// All fans split, over a cleared work buffer, where the copies find room.
-fn split_rows(
+// All fans put into the order, over a cleared work buffer.
+fn order_rows(rows: &[i32], work: &mut [u32], halfedges: usize, vertices: usize) -> Ordered
+    requires { ⌜ SoundRows halfedges vertices (now rows) × ((halfedges + vertices ≤ length (now work)) × ((k : ℕ) → k < halfedges + vertices → getD (now work) k 0 ≡ 0)) ⌝ }
+    ensures { λ r. ⌜ Gives r (now (work .exit)) (order-rows halfedges vertices (now (rows .entry)) halfedges (order (now (work .entry)) 0 0)) ⌝ }
+{
+    let mut added = 0;
+    let mut steps = 0;
+    let mut i = 0;
+    while i < halfedges {
+        let h = numbers::halfedge_counted(i);
+        let Ordered::To(a, k) = order_row(rows, work, halfedges, vertices, h, added, steps) else {
+            return Ordered::Unclosed;
+        };
+        added = a;
+        steps = k;
+        i += 1;
+    }
+    Ordered::To(added, steps)
+}
+
+// What a copied fan's last half-edge has beside its number, in the order.
+const COPY: usize = 1073741824;
+
+// Place k of the order, where x stands: its half-edge is listed; with the last of a fan that gets a copy, that fan is split. How many
+// vertices are added then.
+fn write_entry(
     rows: &mut [i32],
     positions: &mut [u64],
-    work: &mut [u32],
     visit: &mut [u32],
     halfedges: usize,
     vertices: usize,
-) -> SoFar
-    requires { ⌜ SoundRows halfedges vertices (now rows) × ((halfedges + vertices ≤ length (now work)) × ((halfedges ≤ length (now visit))
-        × (((k : ℕ) → k < halfedges + vertices → getD (now work) k 0 ≡ 0)
-        × (vertices + split-rows halfedges vertices halfedges (state (now rows) (now positions) (now work) (now visit) 0 0) .added ≤ vertex-capacity-over (now positions))))) ⌝ }
-    ensures { λ r. ⌜ (reached (now (rows .exit)) (now (positions .exit)) (now (work .exit)) (now (visit .exit)) r
-        ≡ split-rows halfedges vertices halfedges (state (now (rows .entry)) (now (positions .entry)) (now (work .entry)) (now (visit .entry)) 0 0))
-        × (drop (halfedges + vertices) (now (work .exit)) ≡ drop (halfedges + vertices) (now (work .entry))) ⌝ }
+    k: usize,
+    x: usize,
+    added: usize,
+) -> usize
+    requires { ⌜ EntryNeeds halfedges vertices (now rows) (now positions) (now visit) k x added ⌝ }
+    ensures { λ r. ⌜ written (now (rows .exit)) (now (positions .exit)) (now (visit .exit)) r ≡ write-entry halfedges vertices k x (written (now (rows .entry)) (now (positions .entry)) (now (visit .entry)) added) ⌝ }
 {
-    let mut sofar = SoFar { added: 0, steps: 0 };
-    let mut i = 0;
-    while i < halfedges {
-        sofar = split_row(
-            rows,
-            positions,
-            work,
-            visit,
-            halfedges,
-            vertices,
-            numbers::halfedge_counted(i),
-            sofar,
-        );
-        i += 1;
+    let c = x % COPY;
+    visit[k] = c as u32;
+    if x < COPY {
+        return added;
     }
-    sofar
+    let i = numbers::halfedge_counted(c);
+    let NamedVertex::At(v) = rows::halfedges::start_of(rows, i, vertices) else {
+        return added;
+    };
+    fanwalks::copy_fan(rows, positions, halfedges, vertices + added, i, v);
+    added + 1
+}
+
+// The whole order, where its copies find room. How many vertices are added.
+fn write_order(
+    rows: &mut [i32],
+    positions: &mut [u64],
+    work: &[u32],
+    visit: &mut [u32],
+    halfedges: usize,
+    vertices: usize,
+    steps: usize,
+) -> usize
+    requires { ⌜ OrderNeeds halfedges vertices (now rows) (now positions) (now work) (now visit) steps ⌝ }
+    ensures { λ r. ⌜ written (now (rows .exit)) (now (positions .exit)) (now (visit .exit)) r ≡ write-order halfedges vertices (now (work .entry)) steps (written (now (rows .entry)) (now (positions .entry)) (now (visit .entry)) 0) ⌝ }
+{
+    let mut added = 0;
+    let mut k = 0;
+    while k < steps {
+        let x = fanwalks::entry_at(work, k);
+        added = write_entry(rows, positions, visit, halfedges, vertices, k, x, added);
+        k += 1;
+    }
+    added
 }
 
 // What split_pinched_verts answers: vertices added and half-edges visited; or a shape that does not fit, a buffer too short, the
-
 // least row that is not in order, a fan that does not close, no room for a copy.
 pub enum Split {
     Done(usize, usize),
@@ -214,33 +157,35 @@ pub enum Split {
     NoRoom,
 }
 
-// Past the count, over a cleared work buffer: the copies find room and all is written, or the free vertex rows are zeroed.
-fn split_counted(
+// Over a cleared work buffer: the fans are put into the order, and where the copies find room all is written; else the free vertex rows
+// are zeroed. That a fan does not close cannot come here: every fan of a sound net closes.
+fn split_cleared(
     rows: &mut [i32],
     positions: &mut [u64],
     work: &mut [u32],
     visit: &mut [u32],
     halfedges: usize,
     vertices: usize,
-    copies: usize,
 ) -> Split
     requires { ⌜ SoundRows halfedges vertices (now rows) × ((halfedges + vertices ≤ length (now work)) × ((halfedges ≤ length (now visit)) × ((vertices ≤ vertex-capacity-over (now positions))
-        × ((cleared (halfedges + vertices) (now work) ≡ now work)
-        × (all-split halfedges vertices (now rows) (now positions) (now work) (now visit) .added ≡ copies))))) ⌝ }
-    ensures { λ r. ⌜ outcome (splitSaid r) (now (rows .exit)) (now (positions .exit)) (now (work .exit)) (now (visit .exit))
-        ≡ by-room halfedges vertices (now (rows .entry)) (now (positions .entry)) (now (work .entry)) (now (visit .entry)) copies ⌝ }
+        × (cleared (halfedges + vertices) (now work) ≡ now work)))) ⌝ }
+    ensures { λ r. ⌜ (outcome (splitSaid r) (now (rows .exit)) (now (positions .exit)) (now (work .entry)) (now (visit .exit))
+        ≡ split-sound halfedges vertices (now (rows .entry)) (now (positions .entry)) (now (work .entry)) (now (visit .entry)))
+        × (drop (halfedges + vertices) (now (work .exit)) ≡ drop (halfedges + vertices) (now (work .entry))) ⌝ }
 {
+    let Ordered::To(copies, steps) = order_rows(rows, work, halfedges, vertices) else {
+        return Split::OpenFan;
+    };
     let capacity = net::vertex_capacity(positions);
     if copies > capacity - vertices {
         rows::triples::zero(positions, vertices, capacity);
         return Split::NoRoom;
     }
-    let sofar = split_rows(rows, positions, work, visit, halfedges, vertices);
-    stretches::zero_u32(work, 0, halfedges + vertices);
-    Split::Done(sofar.added, sofar.steps)
+    let added = write_order(rows, positions, work, visit, halfedges, vertices, steps);
+    Split::Done(added, steps)
 }
 
-// A net with nothing that calls for answer 1, 2 or 3. That a fan does not close cannot come here: the count of a sound net closes.
+// A net with nothing that calls for answer 1, 2 or 3.
 fn split_sound(
     rows: &mut [i32],
     positions: &mut [u64],
@@ -254,12 +199,9 @@ fn split_sound(
         ≡ split-sound halfedges vertices (now (rows .entry)) (now (positions .entry)) (now (work .entry)) (now (visit .entry)) ⌝ }
 {
     stretches::zero_u32(work, 0, halfedges + vertices);
-    let copies = count_rows(rows, work, halfedges, vertices);
+    let said = split_cleared(rows, positions, work, visit, halfedges, vertices);
     stretches::zero_u32(work, 0, halfedges + vertices);
-    match copies {
-        Copies::Counted(n) => split_counted(rows, positions, work, visit, halfedges, vertices, n),
-        Copies::Unclosed => Split::OpenFan,
-    }
+    said
 }
 
 // The entry split_pinched_verts.

@@ -1,0 +1,92 @@
+-- `split::split_cleared` meets its contract: no room, or all written. Every fan of a sound net closes.
+use mathlib.Core.Path.{sym, ap, _∙_}
+use native.Mathlib.Omega.{arith}
+use Rattle.ordering.specs.Order.{order, order-rows}
+use Rattle.ordering.proofs.Passes.{capacity-lent}
+use Rattle.rows.specs.Triples.{zero-triples}
+use Rattle.split.proofs.Ways.{never-unclosed, given}
+use Rattle.split.proofs.Stages.{reads-zero, goes, full, needs-met, all-written}
+use borrow.Author.Needs.{needs}
+use Rattle.split.proofs.split_cleared.Statement.{statement}
+use Rattle.split.proofs.split_cleared.Tie as tie
+
+order-rows-requires : tie.Need-order-rows-requires
+order-rows-requires c κs = (c .before .before .before .before .before .pre .0, (c .before .before .before .before .before .pre .1 .0, reads-zero _ _ (c .before .before .before .before .before .pre .1 .0) (c .before .before .before .before .before .pre .1 .1 .1 .1)))
+
+enum-known-copies : tie.Need-enum-known-copies
+enum-known-copies c = search needs
+
+enum-told : tie.Need-enum-told
+enum-told c = search needs
+
+same-length : tie.Need-same-length
+same-length c = search needs
+
+same-length-2 : tie.Need-same-length-2
+same-length-2 c = search needs
+
+returns : tie.Need-returns
+returns c = absurd (never-unclosed (sym (c .enum-told .given .1) ∙ c .before .before .before .before .order-rows .ensures .0))
+
+vertex-capacity-requires : tie.Need-vertex-capacity-requires
+vertex-capacity-requires c κs = search needs
+
+sub-if1 : tie.Need-sub-if1
+sub-if1 c = search needs
+
+zero-requires : tie.Need-zero-requires
+zero-requires c κs = (omega (arith, c .before .before .vertex-capacity .ensures, c .before .before .before .before .before .before .before .before .before .before .before .before .before .before .before .pre .1 .1 .1 .0), omega (arith, c .before .before .vertex-capacity .ensures, capacity-lent (c .before .before .before .before .before .before .before .before .before .before .before .before .before .before .before .args .positions .now)))
+
+same-length-3 : tie.Need-same-length-3
+same-length-3 c = search needs
+
+same-length-4 : tie.Need-same-length-4
+same-length-4 c = search needs
+
+same-length-5 : tie.Need-same-length-5
+same-length-5 c = search needs
+
+returns-2 : tie.Need-returns-2
+returns-2 c = (full (c .before .before .before .before .before .before .before .before .before .before .before .before .before .before .before .before .before .before .args .positions .now) (c .before .before .before .before .before .before .before .before .before .before .before .before .before .before .before .before .before .before .args .work .now) (c .before .before .before .before .before .before .before .before .before .before .before .before .before .before .before .before .before .before .args .visit .now) (c .before .before .before .before .before .before .before .before .before .before .before .before .before .before .before .before .before .before .pre .0) (c .before .before .before .before .before .before .before .before .before .before .before .before .before .before .before .before .before .before .pre .1 .0) (c .before .before .before .before .before .before .before .before .before .before .before .before .before .before .before .before .before .before .pre .1 .1 .1 .1) _ _ _ (given _ _ _ (order-rows (c .before .before .before .before .before .before .before .before .before .before .before .before .before .before .before .before .before .before .args .halfedges) (c .before .before .before .before .before .before .before .before .before .before .before .before .before .before .before .before .before .before .args .vertices) (c .before .before .before .before .before .before .before .before .before .before .before .before .before .before .before .before .before .before .args .rows .now) (c .before .before .before .before .before .before .before .before .before .before .before .before .before .before .before .before .before .before .args .halfedges) (order (c .before .before .before .before .before .before .before .before .before .before .before .before .before .before .before .before .before .before .args .work .now) 0 0)) _ (c .before .before .before .before .before .before .before .before .copies .given .1) (c .before .before .before .before .before .before .before .before .before .before .before .before .order-rows .ensures)) (omega (arith, c .before .before .before .before .before .vertex-capacity .ensures, c .before .before .before .before .if1 .taken)) _ (c .before .before .zero .ensures ∙ ap (λ k. zero-triples (c .before .before .before .before .before .before .before .before .before .before .before .before .before .before .before .before .before .before .args .vertices) k (c .before .before .before .before .before .before .before .before .before .before .before .before .before .before .before .before .before .before .args .positions .now)) (c .before .before .before .before .before .vertex-capacity .ensures)), (goes (c .before .before .before .before .before .before .before .before .before .before .before .before .before .before .before .before .before .before .args .positions .now) (c .before .before .before .before .before .before .before .before .before .before .before .before .before .before .before .before .before .before .args .work .now) (c .before .before .before .before .before .before .before .before .before .before .before .before .before .before .before .before .before .before .args .visit .now) (c .before .before .before .before .before .before .before .before .before .before .before .before .before .before .before .before .before .before .pre .0) (c .before .before .before .before .before .before .before .before .before .before .before .before .before .before .before .before .before .before .pre .1 .0) (c .before .before .before .before .before .before .before .before .before .before .before .before .before .before .before .before .before .before .pre .1 .1 .1 .1) _ _ _ (given _ _ _ (order-rows (c .before .before .before .before .before .before .before .before .before .before .before .before .before .before .before .before .before .before .args .halfedges) (c .before .before .before .before .before .before .before .before .before .before .before .before .before .before .before .before .before .before .args .vertices) (c .before .before .before .before .before .before .before .before .before .before .before .before .before .before .before .before .before .before .args .rows .now) (c .before .before .before .before .before .before .before .before .before .before .before .before .before .before .before .before .before .before .args .halfedges) (order (c .before .before .before .before .before .before .before .before .before .before .before .before .before .before .before .before .before .before .args .work .now) 0 0)) _ (c .before .before .before .before .before .before .before .before .copies .given .1) (c .before .before .before .before .before .before .before .before .before .before .before .before .order-rows .ensures))) .beyond)
+
+write-order-requires : tie.Need-write-order-requires
+write-order-requires c κs = needs-met (c .before .before .before .before .before .before .before .before .before .before .before .before .before .before .before .before .before .before .args .positions .now) (c .before .before .before .before .before .before .before .before .before .before .before .before .before .before .before .before .before .before .args .work .now) (c .before .before .before .before .before .before .before .before .before .before .before .before .before .before .before .before .before .before .args .visit .now) (c .before .before .before .before .before .before .before .before .before .before .before .before .before .before .before .before .before .before .pre .0) (c .before .before .before .before .before .before .before .before .before .before .before .before .before .before .before .before .before .before .pre .1 .0) (c .before .before .before .before .before .before .before .before .before .before .before .before .before .before .before .before .before .before .pre .1 .1 .1 .1) _ _ _ (given _ _ _ (order-rows (c .before .before .before .before .before .before .before .before .before .before .before .before .before .before .before .before .before .before .args .halfedges) (c .before .before .before .before .before .before .before .before .before .before .before .before .before .before .before .before .before .before .args .vertices) (c .before .before .before .before .before .before .before .before .before .before .before .before .before .before .before .before .before .before .args .rows .now) (c .before .before .before .before .before .before .before .before .before .before .before .before .before .before .before .before .before .before .args .halfedges) (order (c .before .before .before .before .before .before .before .before .before .before .before .before .before .before .before .before .before .before .args .work .now) 0 0)) _ (c .before .before .before .before .before .before .before .before .copies .given .1) (c .before .before .before .before .before .before .before .before .before .before .before .before .order-rows .ensures)) (c .before .before .before .before .before .before .before .before .before .before .before .before .before .before .before .before .before .before .pre .1 .1 .0) (c .before .before .before .before .before .before .before .before .before .before .before .before .before .before .before .before .before .before .pre .1 .1 .1 .0) (omega (arith, c .before .before .before .before .before .vertex-capacity .ensures, c .before .before .before .before .if1 .left))
+
+same-length-6 : tie.Need-same-length-6
+same-length-6 c = search needs
+
+same-length-7 : tie.Need-same-length-7
+same-length-7 c = search needs
+
+same-length-8 : tie.Need-same-length-8
+same-length-8 c = search needs
+
+same-length-9 : tie.Need-same-length-9
+same-length-9 c = search needs
+
+returns-3 : tie.Need-returns-3
+returns-3 c = (all-written (c .before .before .before .before .before .before .before .before .before .before .before .before .before .before .before .before .before .before .before .before .before .before .before .before .args .positions .now) (c .before .before .before .before .before .before .before .before .before .before .before .before .before .before .before .before .before .before .before .before .before .before .before .before .args .work .now) (c .before .before .before .before .before .before .before .before .before .before .before .before .before .before .before .before .before .before .before .before .before .before .before .before .args .visit .now) (c .before .before .before .before .before .before .before .before .before .before .before .before .before .before .before .before .before .before .before .before .before .before .before .before .pre .0) (c .before .before .before .before .before .before .before .before .before .before .before .before .before .before .before .before .before .before .before .before .before .before .before .before .pre .1 .0) (c .before .before .before .before .before .before .before .before .before .before .before .before .before .before .before .before .before .before .before .before .before .before .before .before .pre .1 .1 .1 .1) _ _ _ (given _ _ _ (order-rows (c .before .before .before .before .before .before .before .before .before .before .before .before .before .before .before .before .before .before .before .before .before .before .before .before .args .halfedges) (c .before .before .before .before .before .before .before .before .before .before .before .before .before .before .before .before .before .before .before .before .before .before .before .before .args .vertices) (c .before .before .before .before .before .before .before .before .before .before .before .before .before .before .before .before .before .before .before .before .before .before .before .before .args .rows .now) (c .before .before .before .before .before .before .before .before .before .before .before .before .before .before .before .before .before .before .before .before .before .before .before .before .args .halfedges) (order (c .before .before .before .before .before .before .before .before .before .before .before .before .before .before .before .before .before .before .before .before .before .before .before .before .args .work .now) 0 0)) _ (c .before .before .before .before .before .before .before .before .before .before .before .before .before .before .copies .given .1) (c .before .before .before .before .before .before .before .before .before .before .before .before .before .before .before .before .before .before .order-rows .ensures)) (omega (arith, c .before .before .before .before .before .before .before .before .before .before .before .vertex-capacity .ensures, c .before .before .before .before .before .before .before .before .before .before .if1 .left)) _ _ _ _ (c .before .before .before .before .before .write-order .ensures), (goes (c .before .before .before .before .before .before .before .before .before .before .before .before .before .before .before .before .before .before .before .before .before .before .before .before .args .positions .now) (c .before .before .before .before .before .before .before .before .before .before .before .before .before .before .before .before .before .before .before .before .before .before .before .before .args .work .now) (c .before .before .before .before .before .before .before .before .before .before .before .before .before .before .before .before .before .before .before .before .before .before .before .before .args .visit .now) (c .before .before .before .before .before .before .before .before .before .before .before .before .before .before .before .before .before .before .before .before .before .before .before .before .pre .0) (c .before .before .before .before .before .before .before .before .before .before .before .before .before .before .before .before .before .before .before .before .before .before .before .before .pre .1 .0) (c .before .before .before .before .before .before .before .before .before .before .before .before .before .before .before .before .before .before .before .before .before .before .before .before .pre .1 .1 .1 .1) _ _ _ (given _ _ _ (order-rows (c .before .before .before .before .before .before .before .before .before .before .before .before .before .before .before .before .before .before .before .before .before .before .before .before .args .halfedges) (c .before .before .before .before .before .before .before .before .before .before .before .before .before .before .before .before .before .before .before .before .before .before .before .before .args .vertices) (c .before .before .before .before .before .before .before .before .before .before .before .before .before .before .before .before .before .before .before .before .before .before .before .before .args .rows .now) (c .before .before .before .before .before .before .before .before .before .before .before .before .before .before .before .before .before .before .before .before .before .before .before .before .args .halfedges) (order (c .before .before .before .before .before .before .before .before .before .before .before .before .before .before .before .before .before .before .before .before .before .before .before .before .args .work .now) 0 0)) _ (c .before .before .before .before .before .before .before .before .before .before .before .before .before .before .copies .given .1) (c .before .before .before .before .before .before .before .before .before .before .before .before .before .before .before .before .before .before .order-rows .ensures))) .beyond)
+
+pub split-cleared-spec : {M : Type 1} → statement M
+split-cleared-spec =
+    tie.close
+    (tie.spec
+    order-rows-requires
+    enum-known-copies
+    enum-told
+    same-length
+    same-length-2
+    returns
+    vertex-capacity-requires
+    sub-if1
+    zero-requires
+    same-length-3
+    same-length-4
+    same-length-5
+    returns-2
+    write-order-requires
+    same-length-6
+    same-length-7
+    same-length-8
+    same-length-9
+    returns-3)
