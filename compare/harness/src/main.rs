@@ -213,6 +213,18 @@ fn compare(times: usize, only: Option<usize>, chance: &mut Chance) {
         nets::damaged(net, chance, &mut |net, chance| table.on_with(net, few, chance));
     }
 
+    table.stage("nets with open edges and long fans, for the owner scan");
+    for i in 0..(times * 6000).max(6) {
+        let net = match i % 3 {
+            0 => chance.pick(&small).clone(),
+            1 => nets::random_sound(chance),
+            // longer than the 64 steps after which the Rust's first walks stop
+            _ => nets::built(nets::bipyramid(3 + chance.below(150)), false, chance),
+        };
+        let net = nets::opened(&net, chance);
+        table.one(entry_named("orbit_owners"), &net, usize::MAX, chance);
+    }
+
     table.stage("large nets");
     let sizes: &[usize] = match times {
         0 => &[100],

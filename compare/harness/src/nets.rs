@@ -284,6 +284,34 @@ pub fn damaged(l: &Lent, chance: &mut Chance, each: &mut impl FnMut(&Lent, &mut 
     }
 }
 
+/// A net for the owner scan, not sound: some edges opened, or each side of them paired with itself, and rows whose start or end is below 0.
+/// Every pair that is there still points back.
+pub fn opened(l: &Lent, chance: &mut Chance) -> Lent {
+    let mut l = l.clone();
+    let rows = l.used.halfedges;
+    for _ in 0..chance.below(4) {
+        let h = chance.below(rows);
+        let p = l.halfedges[4 * h + 2];
+        if p >= 0 {
+            let negative = *chance.pick(&[-1, -2, i32::MIN]);
+            let open = chance.once_in(2);
+            for g in [h, p as usize] {
+                l.halfedges[4 * g + 2] = if open { negative } else { g as i32 };
+            }
+        }
+    }
+    // none, a few, or most of the starts and ends
+    let below = *chance.pick(&[0, 1, 1, 7]);
+    for h in 0..rows {
+        for k in 0..2 {
+            if chance.below(8) < below {
+                l.halfedges[4 * h + k] = *chance.pick(&[-1, -2, i32::MIN]);
+            }
+        }
+    }
+    l
+}
+
 /// Each count at and beside what it may be, and far from it.
 pub fn counts_beside(l: &Lent, chance: &mut Chance, each: &mut impl FnMut(&Lent, &mut Chance)) {
     let around = |n: usize| [n.wrapping_sub(3), n.wrapping_sub(1), n, n + 1, n + 2, n + 3];
