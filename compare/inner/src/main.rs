@@ -334,3 +334,40 @@ fn report(table: &Table) {
         std::process::exit(1);
     }
 }
+
+/// The comparison itself: a wrong answer, a wrong count and a row written that should not be are each seen.
+#[cfg(test)]
+mod tests {
+    use super::*;
+
+    fn differences(ours: fn(&mut Lent, &[i32]) -> Result<StepAnswer, String>) -> u64 {
+        let step = Step { name: "remove_if_folded", ours, theirs: STEPS[2].theirs, vertex: false, halfedges: 1 };
+        let mut line = Line::default();
+        nets::all_sound(2, &mut |net| line.take(&step, &net, &[0]));
+        assert_eq!(line.calls, 3);
+        line.differences
+    }
+
+    #[test]
+    fn right_steps_are_passed() {
+        assert_eq!(differences(fold), 0);
+    }
+
+    #[test]
+    fn a_wrong_answer_is_seen() {
+        assert_eq!(differences(|l, n| fold(l, n).map(|told| StepAnswer { number: 7, ..told })), 3);
+        assert_eq!(differences(|l, n| fold(l, n).map(|told| StepAnswer { vertices: told.vertices + 1, ..told })), 3);
+    }
+
+    #[test]
+    fn a_row_written_is_seen() {
+        assert_eq!(
+            differences(|l, n| {
+                let told = fold(l, n);
+                l.halfedges[3] ^= 1;
+                told
+            }),
+            3
+        );
+    }
+}
