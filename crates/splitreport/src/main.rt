@@ -1,4 +1,5 @@
-// The report program: it reads a mesh file of form 1 from standard input, splits its pinched vertices, and prints the report.
+// The report program: it reads a mesh file of form 1 from standard input, splits its pinched vertices, and prints the report. The 65,536
+// bytes that it reads decide the report of the whole file: theorem `front-enough` of splitfile.
 use libc::STDIN_FILENO;
 use libc::STDOUT_FILENO;
 
