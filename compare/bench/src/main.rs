@@ -352,7 +352,9 @@ fn run(words: &[String]) {
             let line = format!("| {} | {} | {:.2} |{shown} {one:.2} | {other:.2} |", course.name, with_commas(rows as usize), ours / rows);
             eprintln!("{line}");
             let _ = writeln!(page, "{line}");
-            if let Some(curve) = course.curve {
+            // the other three of surgery take the time of check_net, and the Rust's split is there once
+            let drawn = !race.constant || race.entry == "form_loop";
+            if let Some(curve) = course.curve.filter(|_| drawn) {
                 curves.push((race.entry.to_string(), curve, rows / 3.0, ours));
                 if !race.constant && race.entry != "check_net" {
                     curves.push((format!("Rust's {}", race.beside), curve, rows / 3.0, theirs));

@@ -2,8 +2,7 @@
 
 use std::fmt::Write;
 
-const COLOURS: [&str; 10] =
-    ["#1b6ca8", "#c0392b", "#e59866", "#27ae60", "#7dcea0", "#8e44ad", "#d68910", "#555555", "#17a2b8", "#000000"];
+const COLOURS: [&str; 6] = ["#1b6ca8", "#c0392b", "#e59866", "#27ae60", "#7dcea0", "#8e44ad"];
 
 /// Points of named curves, in order or shuffled (dashed): size in triangles, time in nanoseconds.
 pub fn drawn(points: &[(String, &str, f64, f64)]) -> String {
