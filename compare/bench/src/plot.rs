@@ -24,6 +24,7 @@ pub fn drawn(points: &[(String, &str, f64, f64)]) -> String {
             3 => "1 µs".to_string(),
             4 | 5 => format!("{} µs", 10i32.pow(e as u32 - 3)),
             6..=8 => format!("{} ms", 10i32.pow(e as u32 - 6)),
+            9 => "1 s".to_string(),
             _ => format!("10^{e} ns"),
         };
         let _ = writeln!(out, "<line x1=\"{left}\" y1=\"{y:.1}\" x2=\"{:.1}\" y2=\"{y:.1}\" stroke=\"#ddd\"/><text x=\"{:.1}\" y=\"{:.1}\" text-anchor=\"end\">{name}</text>", left + width, left - 8.0, y + 4.0);
