@@ -8,9 +8,9 @@ use native.Mathlib.Omega.{arith}
 use lib.IntN.{ℤ, pos}
 use lib.ListN.{length}
 use Rattle.numbers.specs.Next.{next}
-use Rattle.rows.specs.Halfedges.{Column, start, end, pair, prop, column, none, lent-halfedges, rows-from, empty-row}
+use Rattle.rows.specs.Halfedges.{Column, start, end, pair, prop, column, pairOf, none, lent-halfedges, rows-from, empty-row}
 use Rattle.rows.proofs.Columns.{column-written, other-column, other-row}
-use Rattle.pairing.specs.Pairing.{PairedUp, paired}
+use Rattle.pairing.specs.Pairing.{paired}
 use Rattle.pairing.proofs.Told.{paired-up}
 use Rattle.triangles.specs.Triangles.{Outside}
 use Rattle.triangles.proofs.Parts.{second-in, third-in}
@@ -98,7 +98,7 @@ module _ (e : ℕ) (l : List ℤ) where
       thrice-third : Gone thrice (next (next e))
       thrice-third = cleared-here (next (next e)) twice third-lent
 
--- both triangles, after the pairing
+-- both triangles
 module _ (e f : ℕ) (l : List ℤ) where
   abbrev pub six : List ℤ
   six = cleared3 f (next f) (next (next f)) (cleared3 e (next e) (next (next e)) l)
@@ -106,61 +106,48 @@ module _ (e f : ℕ) (l : List ℤ) where
   pub six-other : (c : Column) (g : ℕ) → Outer e f g → column c six g ≡ column c l g
   six-other c g o = thrice-other f (thrice e l) c g (o .off-other) ∙ thrice-other e l c g (o .off-first)
 
-module _ (H a b c d : ℕ) (rows : List ℤ) (thirds : H % 3 ≡ 0) (lent : H ≤ lent-halfedges rows) (a-in : a < H) (b-in : b < H) (c-in : c < H) (d-in : d < H) where
-  pub first-two : PairedUp a d rows (paired a d rows)
-  first-two = paired-up a d rows (omega arith) (omega arith)
+-- the pairing: what it leaves of the rows
+pub record JoinedUp (H a b c d : ℕ) (rows after : List ℤ) : Type 0 where
+  pub pair-a : (a ≡ b → ⊥) → (a ≡ c → ⊥) → pairOf after a ≡ pos d
+  pub pair-b : pairOf after b ≡ pos c
+  pub pair-c : pairOf after c ≡ pos b
+  pub pair-d : (d ≡ b → ⊥) → (d ≡ c → ⊥) → pairOf after d ≡ pos a
+  pub pairs : (g : ℕ) → (g ≡ a → ⊥) → (g ≡ b → ⊥) → (g ≡ c → ⊥) → (g ≡ d → ⊥) → pairOf after g ≡ pairOf rows g
+  pub other-columns : (k : Column) → (k ≡ pair → ⊥) → (g : ℕ) → column k after g ≡ column k rows g
+  pub behind : rows-from H after ≡ rows-from H rows
+  pub same-length : length after ≡ length rows
 
-  pub last-two : PairedUp b c (paired a d rows) (paired b c (paired a d rows))
-  last-two = let k = first-two .same-length in paired-up b c (paired a d rows) (omega arith) (omega arith)
+pub joined-up : (H a b c d : ℕ) (rows : List ℤ) → H ≤ lent-halfedges rows → a < H → b < H → c < H → d < H → JoinedUp H a b c d rows (joined a b c d rows)
+unfolding joined
+joined-up H a b c d rows lent a-in b-in c-in d-in =
+    let x = paired-up a d rows (omega arith) (omega arith) in
+    let k = x .same-length in
+    let y = paired-up b c (paired a d rows) (omega arith) (omega arith) in
+    record {
+      pair-a = λ nb nc. y .other-rows pair a nb nc ∙ x .first-pair;
+      pair-b = y .first-pair;
+      pair-c = y .second-pair;
+      pair-d = λ nb nc. y .other-rows pair d nb nc ∙ x .second-pair;
+      pairs = λ g na nb nc nd. y .other-rows pair g nb nc ∙ x .other-rows pair g na nd;
+      other-columns = λ k n g. y .other-columns k n g ∙ x .other-columns k n g;
+      behind = y .behind H b-in c-in ∙ x .behind H a-in d-in;
+      same-length = y .same-length ∙ k;
+    }
 
-  joined-length : length (joined a b c d rows) ≡ length rows
-  unfolding joined
-  joined-length = last-two .same-length ∙ first-two .same-length
-
-  joined-column : (k : Column) → (k ≡ pair → ⊥) → (g : ℕ) → column k (joined a b c d rows) g ≡ column k rows g
-  unfolding joined
-  joined-column k n g = last-two .other-columns k n g ∙ first-two .other-columns k n g
-
-  joined-free : rows-from H (joined a b c d rows) ≡ rows-from H rows
-  unfolding joined
-  joined-free = last-two .behind H b-in c-in ∙ first-two .behind H a-in d-in
-
-  pub taken-out : (e f : ℕ) → e < H → f < H → TakenOut H e f rows (six e f (joined a b c d rows))
-  taken-out e f e-in f-in =
-      let j = joined a b c d rows in
-      let room : H ≤ lent-halfedges j = rw joined-length lent in
-      let room2 : H ≤ lent-halfedges (thrice e j) = rw (length-thrice e j) room in
-      record {
-        e-gone = thrice-stays f (thrice e j) H f-in thirds room2 e (thrice-first e j H e-in thirds room);
-        e1-gone = thrice-stays f (thrice e j) H f-in thirds room2 (next e) (thrice-second e j H e-in thirds room);
-        e2-gone = thrice-stays f (thrice e j) H f-in thirds room2 (next (next e)) (thrice-third e j H e-in thirds room);
-        f-gone = thrice-first f (thrice e j) H f-in thirds room2;
-        f1-gone = thrice-second f (thrice e j) H f-in thirds room2;
-        f2-gone = thrice-third f (thrice e j) H f-in thirds room2;
-        starts = λ g o. six-other e f j start g o ∙ joined-column start (λ q. let z : _≡_ {A = ℕ} 0 1 = cc in omega arith) g;
-        ends = λ g o. six-other e f j end g o ∙ joined-column end (λ q. let z : _≡_ {A = ℕ} 0 1 = cc in omega arith) g;
-        props = λ g o. six-other e f j prop g o ∙ joined-column prop (λ q. let z : _≡_ {A = ℕ} 0 1 = cc in omega arith) g;
-        behind = thrice-free f (thrice e j) H f-in thirds ∙ thrice-free e j H e-in thirds ∙ joined-free;
-        same-length = length-thrice f (thrice e j) ∙ length-thrice e j ∙ joined-length;
-      }
-
-  -- the pairs of the rows outside: of none of the four as it was, of each its new partner
-  pub joined-other : (g : ℕ) → (g ≡ a → ⊥) → (g ≡ b → ⊥) → (g ≡ c → ⊥) → (g ≡ d → ⊥) → column pair (joined a b c d rows) g ≡ column pair rows g
-  unfolding joined
-  joined-other g na nb nc nd = last-two .other-rows pair g nb nc ∙ first-two .other-rows pair g na nd
-
-  pub joined-b : column pair (joined a b c d rows) b ≡ pos c
-  unfolding joined
-  joined-b = last-two .first-pair
-
-  pub joined-c : column pair (joined a b c d rows) c ≡ pos b
-  unfolding joined
-  joined-c = last-two .second-pair
-
-  pub joined-a : (a ≡ b → ⊥) → (a ≡ c → ⊥) → column pair (joined a b c d rows) a ≡ pos d
-  unfolding joined
-  joined-a nb nc = last-two .other-rows pair a nb nc ∙ first-two .first-pair
-
-  pub joined-d : (d ≡ b → ⊥) → (d ≡ c → ⊥) → column pair (joined a b c d rows) d ≡ pos a
-  unfolding joined
-  joined-d nb nc = last-two .other-rows pair d nb nc ∙ first-two .second-pair
+pub taken-out : {H a b c d : ℕ} {rows j : List ℤ} → JoinedUp H a b c d rows j → H % 3 ≡ 0 → H ≤ lent-halfedges rows → (e f : ℕ) → e < H → f < H → TakenOut H e f rows (six e f j)
+taken-out {H} {j = j} J thirds lent e f e-in f-in =
+    let room : H ≤ lent-halfedges j = rw (J .same-length) lent in
+    let room2 : H ≤ lent-halfedges (thrice e j) = rw (length-thrice e j) room in
+    record {
+      e-gone = thrice-stays f (thrice e j) H f-in thirds room2 e (thrice-first e j H e-in thirds room);
+      e1-gone = thrice-stays f (thrice e j) H f-in thirds room2 (next e) (thrice-second e j H e-in thirds room);
+      e2-gone = thrice-stays f (thrice e j) H f-in thirds room2 (next (next e)) (thrice-third e j H e-in thirds room);
+      f-gone = thrice-first f (thrice e j) H f-in thirds room2;
+      f1-gone = thrice-second f (thrice e j) H f-in thirds room2;
+      f2-gone = thrice-third f (thrice e j) H f-in thirds room2;
+      starts = λ g o. six-other e f j start g o ∙ J .other-columns start (λ q. let z : _≡_ {A = ℕ} 0 1 = cc in omega arith) g;
+      ends = λ g o. six-other e f j end g o ∙ J .other-columns end (λ q. let z : _≡_ {A = ℕ} 0 1 = cc in omega arith) g;
+      props = λ g o. six-other e f j prop g o ∙ J .other-columns prop (λ q. let z : _≡_ {A = ℕ} 0 1 = cc in omega arith) g;
+      behind = thrice-free f (thrice e j) H f-in thirds ∙ thrice-free e j H e-in thirds ∙ J .behind;
+      same-length = length-thrice f (thrice e j) ∙ length-thrice e j ∙ J .same-length;
+    }

@@ -2,7 +2,7 @@
 use mathlib.Core.Path.{_≡_, refl, sym, ap, _∙_}
 use mathlib.Core.Bool.{Bool, true, false, cond, _&&_, _||_}
 use mathlib.Core.List.{List}
-use mathlib.Core.Logic.{_⊎_, ⊎-elim}
+use mathlib.Core.Logic.{⊎-elim}
 use Prim.Native.Nat.{ℕ, _%_, _<_, _≤_}
 use native.Mathlib.Omega.{arith}
 use borrow.Author.Tests.{lt-leb, eqb-true, eqb-false, eq-eqb}
@@ -22,7 +22,7 @@ use Rattle.steps.specs.Steps.{Middle, running, Going, begin}
 use Rattle.steps.proofs.Entries.{live-paired}
 use Rattle.folds.specs.Folds.{nan, most, lose, lose-folded, has-pair, joined, join, clear, take-out, fold-at, fold}
 use Rattle.foldsound.specs.Removed.{SameOpposite, Former, Latter, Outer, TakenOut, Removed, both, only-former, only-latter, not-folded}
-use Rattle.foldsound.proofs.Cleared.{six, six-other, taken-out, joined-other, joined-a, joined-b, joined-c, joined-d}
+use Rattle.foldsound.proofs.Cleared.{six, six-other, JoinedUp, joined-up, taken-out}
 use Rattle.foldsound.proofs.Lost.{lost-one, lost-more}
 use Rattle.foldsound.proofs.Edge.{outer-flip, x-outer, y-outer}
 use Rattle.foldsound.proofs.InOrder.{removed-in-order}
@@ -139,12 +139,14 @@ module _ (H N : ℕ) (rows : List ℤ) (thirds : H % 3 ≡ 0) (lent : H ≤ lent
     away : (g : ℕ) → Outer e f g → pairOf out g ≡ pairOf (joined a b c d rows) g
     away g o = six-other e f (joined a b c d rows) pair g o
 
+    joins : JoinedUp H a b c d rows (joined a b c d rows)
+    joins = joined-up H a b c d rows lent (row (on l) .pair-in) (row (on (on l)) .pair-in) (row (on k) .pair-in) (row (on (on k)) .pair-in)
+
     gone : TakenOut H e f rows out
-    gone = taken-out H a b c d rows thirds lent (row (on l) .pair-in) (row (on (on l)) .pair-in) (row (on k) .pair-in) (row (on (on k)) .pair-in) e f (l .in-use) (k .in-use)
+    gone = taken-out joins thirds lent e f (l .in-use) (k .in-use)
 
     other : (g : ℕ) → Outer e f g → (g ≡ a → ⊥) → (g ≡ b → ⊥) → (g ≡ c → ⊥) → (g ≡ d → ⊥) → pairOf out g ≡ pairOf rows g
-    other g o na nb nc nd =
-        away g o ∙ joined-other H a b c d rows thirds lent (row (on l) .pair-in) (row (on (on l)) .pair-in) (row (on k) .pair-in) (row (on (on k)) .pair-in) g na nb nc nd
+    other g o na nb nc nd = away g o ∙ joins .pairs g na nb nc nd
 
     -- the other side of each meeting
     former-back : Former rows e f → d ≡ e1
@@ -182,8 +184,8 @@ module _ (H N : ℕ) (rows : List ℤ) (thirds : H % 3 ≡ 0) (lent : H ≤ lent
           rejoined = record {
             x-outer = b-outer;
             y-outer = c-outer;
-            x-pair = away b b-outer ∙ joined-b H a b c d rows thirds lent (row (on l) .pair-in) (row (on (on l)) .pair-in) (row (on k) .pair-in) (row (on (on k)) .pair-in);
-            y-pair = away c c-outer ∙ joined-c H a b c d rows thirds lent (row (on l) .pair-in) (row (on (on l)) .pair-in) (row (on k) .pair-in) (row (on (on k)) .pair-in);
+            x-pair = away b b-outer ∙ joins .pair-b;
+            y-pair = away c c-outer ∙ joins .pair-c;
             pairs = λ g o nb nc. other g o (λ z. o .off-other .not-third (z ∙ p)) nb nc (λ z. o .off-first .not-second (z ∙ former-back p));
           };
           lost = lost-one N (start-vertex rows e1) positions (row (on l) .start-in) positions-lent;
@@ -203,14 +205,8 @@ module _ (H N : ℕ) (rows : List ℤ) (thirds : H % 3 ≡ 0) (lent : H ≤ lent
           rejoined = record {
             x-outer = a-outer;
             y-outer = d-outer;
-            x-pair =
-                away a a-outer
-                ∙ joined-a H a b c d rows thirds lent (row (on l) .pair-in) (row (on (on l)) .pair-in) (row (on k) .pair-in) (row (on (on k)) .pair-in)
-                (λ z. a-outer .off-other .not-second (z ∙ q)) (λ z. a-outer .off-first .not-third (z ∙ latter-back q));
-            y-pair =
-                away d d-outer
-                ∙ joined-d H a b c d rows thirds lent (row (on l) .pair-in) (row (on (on l)) .pair-in) (row (on k) .pair-in) (row (on (on k)) .pair-in)
-                (λ z. d-outer .off-other .not-second (z ∙ q)) (λ z. d-outer .off-first .not-third (z ∙ latter-back q));
+            x-pair = away a a-outer ∙ joins .pair-a (λ z. a-outer .off-other .not-second (z ∙ q)) (λ z. a-outer .off-first .not-third (z ∙ latter-back q));
+            y-pair = away d d-outer ∙ joins .pair-d (λ z. d-outer .off-other .not-second (z ∙ q)) (λ z. d-outer .off-first .not-third (z ∙ latter-back q));
             pairs = λ g o na nd. other g o na (λ z. o .off-other .not-second (z ∙ q)) (λ z. o .off-first .not-third (z ∙ latter-back q)) nd;
           };
           lost = lost-one N (start-vertex rows f1) positions (row (on k) .start-in) positions-lent;

@@ -23,6 +23,12 @@ use Rattle.walks.specs.Way.{Reached, OnWay}
 use Rattle.walks.proofs.Told.{AsTold}
 use Rattle.loopsound.proofs.Ways.{before-end, reached-end, way-live, way-end, way-not-end, way-first, way-step, way-unstep, way-not-before, way-last}
 
+-- what they are: in order over N vertices, b live, and none came or went
+pub record Crossed (H N b : ℕ) (rows after : List ℤ) : Type 0 where
+  pub in-order : (h : ℕ) → h < H → InOrder H N after h
+  pub live : Live H after b
+  pub same-length : length after ≡ length rows
+
 module _ (H N : ℕ) (rows : List ℤ) (thirds : H % 3 ≡ 0) (lent : H ≤ lent-halfedges rows) (in-order : (h : ℕ) → h < H → InOrder H N rows h)
     (a b : ℕ) (la : Live H rows a) (lb : Live H rows b) (rows1 rows2 : List ℤ)
     (r1 : Reached rows (partner rows a) (partner rows b)) (r2 : Reached rows b a)
@@ -149,7 +155,7 @@ module _ (H N : ℕ) (rows : List ℤ) (thirds : H % 3 ≡ 0) (lent : H ≤ lent
       ∙ L-first (way-last H N rows thirds lent in-order lp lq r1 n) ∙ sym (L-first (way-first H N rows thirds lent in-order lp n))
 
   -- the exchange
-  abbrev pub rows3 : List ℤ
+  abbrev rows3 : List ℤ
   rows3 = paired b p (paired a q rows2)
 
   up1 : PairedUp a q rows2 (paired a q rows2)
@@ -302,7 +308,7 @@ module _ (H N : ℕ) (rows : List ℤ) (thirds : H % 3 ≡ 0) (lent : H ≤ lent
         pair-none = pair-kept h (λ e. n (rw e la)) (λ e. n (rw e lb)) (λ e. n (rw e lp)) (λ e. n (rw e lq)) ∙ d .pair-none;
       }
 
-  pub in-order-after : (h : ℕ) → h < H → InOrder H (N + 2) rows3 h
+  in-order-after : (h : ℕ) → h < H → InOrder H (N + 2) rows3 h
   in-order-after h c = go (in-order h c)
     where
       go : InOrder H N rows h → InOrder H (N + 2) rows3 h
@@ -313,8 +319,9 @@ module _ (H N : ℕ) (rows : List ℤ) (thirds : H % 3 ≡ 0) (lent : H ≤ lent
       })
       go (inr r) = inr (live-after h (live-row-live H rows c r))
 
-  pub b-live : Live H rows3 b
-  b-live = record { in-use = lb .in-use; paired = rw (up2 .first-pair) }
-
-  pub length3 : length rows3 ≡ length rows
-  length3 = up2 .same-length ∙ up1 .same-length ∙ length2
+  pub crossed : Crossed H (N + 2) b rows rows3
+  crossed = record {
+    in-order = in-order-after;
+    live = record { in-use = lb .in-use; paired = rw (up2 .first-pair) };
+    same-length = up2 .same-length ∙ up1 .same-length ∙ length2;
+  }

@@ -29,7 +29,7 @@ use Rattle.walks.proofs.Told.{AsTold, walk-told}
 use Rattle.folds.specs.Folds.{fold}
 use Rattle.foldsound.proofs.Steps.{fold-goes, fold-in-order}
 use Rattle.loops.specs.Loops.{append, copy, exchange, cross-at, cross, loop-at}
-use Rattle.loopsound.proofs.Crossed.{in-order-after, b-live, length3}
+use Rattle.loopsound.proofs.Crossed.{crossed}
 
 -- a step that goes on was reached by steps that go on
 went : (m x : Middle) → refused (cond (refused m) m x) ≡ false → refused m ≡ false
@@ -146,10 +146,10 @@ module _ (H N capacity : ℕ) (rows : List ℤ) (positions : List ℕ) (thirds :
   length2 : length rows2 ≡ length rows
   length2 = length-walk H (N + 1) a H rows1 b (lb .in-use) ∙ length1
 
-  abbrev crossed : List ℤ
-  crossed = paired b p (paired a q rows2)
+  abbrev exchanged-rows : List ℤ
+  exchanged-rows = paired b p (paired a q rows2)
 
-  loop-folds : loop-at H capacity a b m0 ≡ fold H b (begin crossed twice (N + 2))
+  loop-folds : loop-at H capacity a b m0 ≡ fold H b (begin exchanged-rows twice (N + 2))
   unfolding exchange
   loop-folds = loop-crosses ∙ rw (walk1 .1, walk2 .1)
 
@@ -165,15 +165,15 @@ module _ (H N capacity : ℕ) (rows : List ℤ) (positions : List ℕ) (thirds :
 
   folded : (out .run ≡ running (N + 2) Going) × ((h : ℕ) → h < H → InOrder H (N + 2) (out .halfedges) h)
   folded =
-      let crossed-in-order = in-order-after H N rows thirds lent in-order a b la lb rows1 rows2 (told1 .0) (told2 .0) (told1 .1) (told2 .1) pairs2 length2 in
-      let live = b-live H N rows thirds lent in-order a b la lb rows1 rows2 (told1 .0) (told2 .0) (told1 .1) (told2 .1) pairs2 length2 in
-      let long : H ≤ lent-halfedges crossed = rw (length3 H N rows thirds lent in-order a b la lb rows1 rows2 (told1 .0) (told2 .0) (told1 .1) (told2 .1) pairs2 length2) lent in
+      let x = crossed H N rows thirds lent in-order a b la lb rows1 rows2 (told1 .0) (told2 .0) (told1 .1) (told2 .1) pairs2 length2 in
+      let long : H ≤ lent-halfedges exchanged-rows = rw (x .same-length) lent in
       let few : N + 2 ≤ most-vertices = omega (arith, two .0) in
-      let room : N + 2 ≤ lent-triples twice =
-      rw (length-put (N + 1) (triple once (end-vertex rows a)) once (rw (length-put N (triple positions (start-vertex rows a)) positions (omega (arith, one .0))) (omega (arith, two .0))), length-put N (triple positions (start-vertex rows a)) positions (omega (arith, one .0))) (omega (arith, two .0)) in
+      let once-long = length-put N (triple positions (start-vertex rows a)) positions (omega (arith, one .0)) in
+      let twice-long = length-put (N + 1) (triple once (end-vertex rows a)) once (rw once-long (omega (arith, two .0))) in
+      let room : N + 2 ≤ lent-triples twice = rw (twice-long, once-long) (omega (arith, two .0)) in
       rw loop-folds (
-        fold-goes H (N + 2) crossed thirds long few crossed-in-order b live twice room,
-        fold-in-order H (N + 2) crossed thirds long few crossed-in-order b live twice room,
+        fold-goes H (N + 2) exchanged-rows thirds long few (x .in-order) b (x .live) twice room,
+        fold-in-order H (N + 2) exchanged-rows thirds long few (x .in-order) b (x .live) twice room,
       )
 
   pub loop-left : (out .run .vertices ≡ N + 2) × (N + 2 ≤ capacity)
