@@ -4,6 +4,7 @@ use crate::chance::Chance;
 use crate::entries::{Field, ALL};
 use crate::lent::{counts, Asked, Lent};
 use crate::nets;
+use crate::reading;
 use std::collections::BTreeMap;
 use std::fmt::Write;
 use std::path::Path;
@@ -16,7 +17,8 @@ fn list<T: std::fmt::Display>(name: &str, values: &[T], out: &mut String) {
     out.push('\n');
 }
 
-/// One call: the entry's place in the table, what is lent, what is asked. A reader needs the numbers alone.
+/// One call: the entry's place in the table, what is lent, what is asked, and the buffers that the entry takes. A reader needs the numbers
+/// alone.
 pub fn call(which: usize, net: &Lent, asked: &Asked) -> String {
     let mut out = String::new();
     let _ = writeln!(out, "{} {which}", ALL[which].name);
@@ -29,11 +31,27 @@ pub fn call(which: usize, net: &Lent, asked: &Asked) -> String {
     list("numbers", &asked.numbers, &mut out);
     list("floats", &asked.floats, &mut out);
     let _ = writeln!(out, "choice {}", asked.choice as u8);
+    for (name, values) in buffers(which, net) {
+        list(name, &values, &mut out);
+    }
     out
 }
 
-/// What the entry must say and leave, as the program `replay` prints it.
-fn printed(which: usize, net: &Lent, asked: &Asked) -> (u32, String) {
+/// The buffers that an entry takes, by name, in the order of its arguments.
+fn buffers(which: usize, net: &Lent) -> Vec<(&'static str, Vec<i128>)> {
+    fn all<T: Copy + Into<i128>>(values: &[T]) -> Vec<i128> {
+        values.iter().map(|&v| v.into()).collect()
+    }
+    match ALL[which].name {
+        "split_pinched_verts" => vec![("work", all(&net.work_words)), ("visit", all(&net.list))],
+        "orbit_owners" => vec![("work", all(&net.work_bytes)), ("list", all(&net.list))],
+        "form_loop" => vec![("spare_halfedges", all(&net.spare_halfedges)), ("spare_positions", all(&net.spare_positions))],
+        _ => vec![],
+    }
+}
+
+/// What the entry must say and leave, as the program `replay` prints it; with its number, and whether anything was written.
+fn printed(which: usize, net: &Lent, asked: &Asked) -> ((u32, bool), String) {
     let entry = &ALL[which];
     let mut left = net.clone();
     let said = (entry.owed)(&mut left, asked);
@@ -47,13 +65,16 @@ fn printed(which: usize, net: &Lent, asked: &Asked) -> (u32, String) {
     }
     out.push('\n');
     if entry.on_nets {
+        for (name, values) in buffers(which, &left) {
+            row(name, &values, &mut out);
+        }
         row("halfedges", &left.halfedges, &mut out);
         row("positions", &left.positions, &mut out);
         row("normals", &left.normals, &mut out);
         row("references", &left.references, &mut out);
         row("properties", &left.properties, &mut out);
     }
-    (said.number, out)
+    ((said.number, left.differs(net).is_some()), out)
 }
 
 fn row<T: std::fmt::Display>(name: &str, values: &[T], out: &mut String) {
@@ -64,25 +85,37 @@ fn row<T: std::fmt::Display>(name: &str, values: &[T], out: &mut String) {
     out.push('\n');
 }
 
-/// A net small enough to store: positions, normals and properties mostly short patterns.
-fn small_net(chance: &mut Chance) -> Lent {
-    loop {
-        let mut net = nets::random_sound(chance);
-        if net.used.halfedges > 30 {
-            continue;
+/// Numbers mostly short, so that more calls can be stored: those that are free or a buffer's are never 0.
+fn shorten(net: &mut Lent, chance: &mut Chance) {
+    let used = net.used;
+    let free = |array: usize, rows: usize, width: usize| rows.saturating_mul(width).min(array);
+    let halfedges = free(net.halfedges.len(), used.halfedges, 4);
+    let references = free(net.references.len(), used.references, 3);
+    for n in net.halfedges[halfedges..].iter_mut().chain(&mut net.references[references..]).chain(&mut net.spare_halfedges) {
+        if !chance.once_in(16) {
+            *n = 1 + n.rem_euclid(99);
         }
-        for bits in net.positions.iter_mut().chain(&mut net.normals).chain(&mut net.properties) {
-            if !chance.once_in(16) {
-                *bits %= 1000;
-            }
+    }
+    for n in net.work_words.iter_mut().chain(&mut net.list) {
+        if !chance.once_in(16) {
+            *n = 1 + *n % 99;
         }
-        return net;
+    }
+    for bits in net.positions.iter_mut().chain(&mut net.normals).chain(&mut net.properties).chain(&mut net.spare_positions) {
+        if !chance.once_in(16) {
+            *bits = 1 + *bits % 99;
+        }
     }
 }
 
-/// A net as it is, damaged, with a count moved, or cut short.
+/// A net as it is, damaged, with a count moved, or cut short; small enough to store.
 fn any_net(chance: &mut Chance) -> Lent {
-    let net = small_net(chance);
+    let net = loop {
+        let net = nets::random_sound(chance);
+        if net.used.halfedges <= MOST_HALFEDGES {
+            break net;
+        }
+    };
     let mut all = vec![];
     match chance.below(6) {
         0 => nets::damaged(&net, chance, &mut |l, _| all.push(l.clone())),
@@ -94,35 +127,61 @@ fn any_net(chance: &mut Chance) -> Lent {
     all.swap_remove(which)
 }
 
-/// How many calls of each entry, and how large the file may be that holds them (the program reads 65,536 bytes).
+/// How large a net is stored, how many calls of each entry, and how large the file may be that holds them (the program reads 65,536 bytes).
+const MOST_HALFEDGES: usize = 24;
 const CALLS: usize = 100;
 const MOST_BYTES: usize = 65_000;
 
-/// How many entries, the first of the table, the program calls so far.
-const IN_PROGRAM: usize = 5;
+/// What stands at the head of a file: no digit and no minus sign, which would be read.
+fn head(name: &str) -> String {
+    let mut out = format!("Calls of {name}: made by the comparison's harness (its command replay), which draws nets and questions by chance\n");
+    out += "and takes each answer that the entry gives in turn. What is owed, in the program's stored output, is what the original Rust\n";
+    out += "left, and for a refusal what a second reading of the scope document says.\n";
+    if name == "split_pinched_verts" {
+        out += "Open fan is not among the answers: it cannot be given once the net is sound.\n";
+    }
+    out
+}
 
 /// Writes data/ENTRY, args and stdout of the program's folder: for each entry 100 calls or as many as its file holds, the answers that it gives in
-/// turn, so that each is there as often as it comes.
+/// turn, done with something written and done with nothing written apart, so that each is there as often as it comes.
 pub fn write(folder: &Path, chance: &mut Chance) {
     let mut stdout = String::new();
     let mut args = String::new();
-    for (which, entry) in ALL.iter().enumerate().take(IN_PROGRAM) {
-        // calls by the answer that is owed
-        let mut by_number: BTreeMap<u32, Vec<(String, String)>> = BTreeMap::new();
-        for _ in 0..if entry.on_nets { 400 } else { 4 } {
+    let mut total = 0;
+    for (which, entry) in ALL.iter().enumerate() {
+        // calls by what is owed
+        let mut by_answer: BTreeMap<(u32, bool), Vec<(String, String)>> = BTreeMap::new();
+        for _ in 0..if entry.on_nets { 600 } else { 4 } {
             let net = if entry.on_nets { any_net(chance) } else { Lent::default() };
-            for asked in (entry.asks)(&net, chance) {
-                let (number, text) = printed(which, &net, &asked);
-                by_number.entry(number).or_default().push((call(which, &net, &asked), text));
+            let mut asks = (entry.asks)(&net, chance);
+            if entry.on_nets && !reading::misshapen(&net) && net.used.vertices > 0 {
+                asks.extend((entry.all)(&net, chance));
+            }
+            for asked in asks {
+                let mut lent = net.clone();
+                (entry.lends)(&mut lent, chance);
+                shorten(&mut lent, chance);
+                let (answer, text) = printed(which, &lent, &asked);
+                let share = by_answer.entry(answer).or_default();
+                let stored = (call(which, &lent, &asked), text);
+                // a sample of each, of no more than so many
+                if share.len() < 2 * CALLS {
+                    share.push(stored);
+                } else if chance.once_in(8) {
+                    let i = chance.below(share.len());
+                    share[i] = stored;
+                }
             }
         }
-        let (mut file, mut calls) = (String::new(), 0);
-        let mut shares: Vec<_> = by_number.values_mut().collect();
-        for share in shares.iter_mut() {
+        let (mut file, mut calls) = (head(entry.name), 0);
+        let mut given: BTreeMap<u32, usize> = BTreeMap::new();
+        let mut shares: Vec<_> = by_answer.iter_mut().collect();
+        for (_, share) in shares.iter_mut() {
             chance.shuffle(share);
         }
-        'full: while calls < CALLS && shares.iter().any(|s| !s.is_empty()) {
-            for share in shares.iter_mut() {
+        'full: while calls < CALLS && shares.iter().any(|(_, s)| !s.is_empty()) {
+            for ((number, _), share) in shares.iter_mut() {
                 let Some((input, output)) = share.pop() else { continue };
                 if file.len() + input.len() > MOST_BYTES {
                     break 'full;
@@ -130,14 +189,16 @@ pub fn write(folder: &Path, chance: &mut Chance) {
                 file += &input;
                 stdout += &output;
                 calls += 1;
+                *given.entry(*number).or_default() += 1;
             }
         }
-        let numbers: Vec<u32> = by_number.keys().copied().collect();
-        eprintln!("{}: {calls} calls, answers {numbers:?}, {} bytes", entry.name, file.len());
+        eprintln!("{}: {calls} calls, answers {given:?}, {} bytes", entry.name, file.len());
         std::fs::write(folder.join("data").join(entry.name), file).expect("the file of calls is written");
         args += entry.name;
         args.push('\n');
+        total += calls;
     }
+    eprintln!("{total} calls");
     std::fs::write(folder.join("args"), args).expect("the arguments are written");
     std::fs::write(folder.join("stdout"), stdout).expect("the output is written");
 }

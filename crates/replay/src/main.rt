@@ -4,10 +4,9 @@
 //
 // A file is text. Only its numbers are read, words and signs beside them are for people. A call is the entry's number, then
 // lists, each as its length and its numbers: counts, half-edges, positions, normals, references, properties, numbers asked, floats
-// asked; then the choice.
-mod scan;
-mod show;
-
+// asked; then the choice; then a list for each buffer that the entry takes.
+use calltext::scan;
+use calltext::show;
 use station::Used;
 
 fn used_of(counts: &[u64; 6]) -> Used {
@@ -21,40 +20,242 @@ fn used_of(counts: &[u64; 6]) -> Used {
     }
 }
 
-fn next_halfedge(numbers: &[i32; 8]) {
-    let told = station::spoonferret_next_halfedge(numbers[0]);
-    show::number(b"next_halfedge", told.number);
-    show::signed(b" next=", told.next);
-    show::end();
+// The entries that take buffers: each reads its own, and says the place behind them.
+fn read_split(
+    file: &[u8],
+    at: usize,
+    used: Used,
+    halfedges: &mut [i32],
+    positions: &mut [u64],
+    normals: &[u64],
+    references: &[i32],
+    properties: &[u64],
+) -> usize {
+    let mut work = [0u32; 512];
+    let mut visit = [0u32; 512];
+    let w = scan::words(file, at, &mut work);
+    let v = scan::words(file, w.next, &mut visit);
+    let w_end = w.length;
+    let v_end = v.length;
+    entrycalls::split_pinched_verts(
+        used,
+        halfedges,
+        positions,
+        normals,
+        references,
+        properties,
+        &mut work[..w_end],
+        &mut visit[..v_end],
+    );
+    v.next
 }
 
-fn tri_of(numbers: &[i32; 8]) {
-    let told = station::spoonferret_tri_of(numbers[0]);
-    show::number(b"tri_of", told.number);
-    show::signed(b" first=", told.first);
-    show::signed(b" second=", told.second);
-    show::signed(b" third=", told.third);
-    show::end();
+fn read_owners(
+    file: &[u8],
+    at: usize,
+    used: Used,
+    halfedges: &[i32],
+    positions: &[u64],
+    normals: &[u64],
+    references: &[i32],
+    properties: &[u64],
+    end_too: bool,
+) -> usize {
+    let mut work = [0u8; 512];
+    let mut list = [0u32; 512];
+    let w = scan::bytes(file, at, &mut work);
+    let l = scan::words(file, w.next, &mut list);
+    let w_end = w.length;
+    let l_end = l.length;
+    entrycalls::orbit_owners(
+        used,
+        halfedges,
+        positions,
+        normals,
+        references,
+        properties,
+        &mut work[..w_end],
+        &mut list[..l_end],
+        end_too,
+    );
+    l.next
 }
 
-fn point(x: u64, y: u64, z: u64) -> station::Point {
-    station::Point {
-        x: floats::float_of(x),
-        y: floats::float_of(y),
-        z: floats::float_of(z),
+fn read_loop(
+    file: &[u8],
+    at: usize,
+    used: Used,
+    halfedges: &mut [i32],
+    positions: &mut [u64],
+    normals: &[u64],
+    references: &[i32],
+    properties: &[u64],
+    numbers: &[i32; 8],
+) -> usize {
+    let mut saved = [0i32; 1024];
+    let mut held = [0u64; 512];
+    let s = scan::signed_list(file, at, &mut saved);
+    let p = scan::list(file, s.next, &mut held);
+    let s_end = s.length;
+    let p_end = p.length;
+    entrycalls::form_loop(
+        used,
+        halfedges,
+        positions,
+        normals,
+        references,
+        properties,
+        &mut saved[..s_end],
+        &mut held[..p_end],
+        numbers,
+    );
+    p.next
+}
+
+// The entries that take no buffer, by number.
+fn run(
+    entry: u64,
+    used: Used,
+    halfedges: &mut [i32],
+    positions: &mut [u64],
+    normals: &[u64],
+    references: &[i32],
+    properties: &[u64],
+    numbers: &[i32; 8],
+    asked: &[u64; 8],
+) {
+    if entry == 0 {
+        entrycalls::next_halfedge(numbers);
+        return;
     }
+    if entry == 1 {
+        entrycalls::tri_of(numbers);
+        return;
+    }
+    if entry == 2 {
+        entrycalls::short_test(numbers, asked);
+        return;
+    }
+    if entry == 3 {
+        entrycalls::check_net(used, halfedges, positions, normals, references, properties);
+        return;
+    }
+    if entry == 4 {
+        entrycalls::pair_up(
+            used,
+            halfedges,
+            positions,
+            normals,
+            references,
+            properties,
+            numbers,
+        );
+        return;
+    }
+    if entry == 7 {
+        entrycalls::update_vert(
+            used,
+            halfedges,
+            positions,
+            normals,
+            references,
+            properties,
+            numbers,
+        );
+        return;
+    }
+    if entry == 8 {
+        entrycalls::collapse_tri(
+            used,
+            halfedges,
+            positions,
+            normals,
+            references,
+            properties,
+            numbers,
+        );
+        return;
+    }
+    if entry == 9 {
+        entrycalls::remove_if_folded(
+            used,
+            halfedges,
+            positions,
+            normals,
+            references,
+            properties,
+            numbers,
+        );
+        return;
+    }
+    show::end();
 }
 
-fn short_test(numbers: &[i32; 8], asked: &[u64; 8]) {
-    let from = point(asked[0], asked[1], asked[2]);
-    let to = point(asked[3], asked[4], asked[5]);
-    let tol = floats::float_of(asked[6]);
-    let epsilon = floats::float_of(asked[7]);
-    let told = station::spoonferret_short_test(from, to, numbers[0], numbers[1], tol, epsilon);
-    show::number(b"short_test", told.number);
-    show::count(b" squared_length=", told.squared_length);
-    show::count(b" limit=", told.limit);
-    show::end();
+// The entry of that number; the place behind its buffers.
+fn run_all(
+    entry: u64,
+    file: &[u8],
+    at: usize,
+    used: Used,
+    halfedges: &mut [i32],
+    positions: &mut [u64],
+    normals: &[u64],
+    references: &[i32],
+    properties: &[u64],
+    numbers: &[i32; 8],
+    asked: &[u64; 8],
+    choice: bool,
+) -> usize {
+    if entry == 5 {
+        return read_split(
+            file,
+            at,
+            used,
+            halfedges,
+            positions,
+            normals,
+            references,
+            properties,
+        );
+    }
+    if entry == 6 {
+        return read_owners(
+            file,
+            at,
+            used,
+            halfedges,
+            positions,
+            normals,
+            references,
+            properties,
+            choice,
+        );
+    }
+    if entry == 10 {
+        return read_loop(
+            file,
+            at,
+            used,
+            halfedges,
+            positions,
+            normals,
+            references,
+            properties,
+            numbers,
+        );
+    }
+    run(
+        entry,
+        used,
+        halfedges,
+        positions,
+        normals,
+        references,
+        properties,
+        numbers,
+        asked,
+    );
+    at
 }
 
 // The five arrays as a call leaves them.
@@ -72,93 +273,39 @@ fn leaves(
     show::list(b"properties", properties);
 }
 
-fn check_net(
-    used: Used,
-    halfedges: &[i32],
-    positions: &[u64],
-    normals: &[u64],
-    references: &[i32],
-    properties: &[u64],
-) {
-    let told = station::spoonferret_check_net(
-        used,
-        halfedges,
-        positions,
-        normals,
-        references,
-        properties,
-    );
-    show::number(b"check_net", told.number);
-    show::count(b" row=", told.row as u64);
-    show::end();
-    leaves(halfedges, positions, normals, references, properties);
-}
-
-fn pair_up(
-    used: Used,
-    halfedges: &mut [i32],
-    positions: &[u64],
-    normals: &[u64],
-    references: &[i32],
-    properties: &[u64],
-    numbers: &[i32; 8],
-) {
-    let told = station::spoonferret_pair_up(
-        used,
-        halfedges,
-        positions,
-        normals,
-        references,
-        properties,
-        numbers[0],
-        numbers[1],
-    );
-    show::number(b"pair_up", told.number);
-    show::end();
-    leaves(halfedges, positions, normals, references, properties);
-}
-
-// The entry of that number.
-fn run(
+// The entry of that number, then the arrays where it works on a net; the place behind its buffers.
+fn run_and_leave(
     entry: u64,
+    file: &[u8],
+    at: usize,
     used: Used,
     halfedges: &mut [i32],
     positions: &mut [u64],
-    normals: &mut [u64],
-    references: &mut [i32],
+    normals: &[u64],
+    references: &[i32],
     properties: &[u64],
     numbers: &[i32; 8],
     asked: &[u64; 8],
-) {
-    if entry == 0 {
-        next_halfedge(numbers);
-        return;
+    choice: bool,
+) -> usize {
+    let next = run_all(
+        entry,
+        file,
+        at,
+        used,
+        halfedges,
+        positions,
+        normals,
+        references,
+        properties,
+        numbers,
+        asked,
+        choice,
+    );
+    if 2 < entry {
+        leaves(halfedges, positions, normals, references, properties);
     }
-    if entry == 1 {
-        tri_of(numbers);
-        return;
-    }
-    if entry == 2 {
-        short_test(numbers, asked);
-        return;
-    }
-    if entry == 3 {
-        check_net(used, halfedges, positions, normals, references, properties);
-        return;
-    }
-    if entry == 4 {
-        pair_up(
-            used,
-            halfedges,
-            positions,
-            normals,
-            references,
-            properties,
-            numbers,
-        );
-        return;
-    }
-    show::end();
+    next
 }
 
 // One call; the place behind it.
@@ -187,18 +334,20 @@ fn call(file: &[u8], at: usize) -> usize {
     let r_end = r.length;
     let q_end = q.length;
     let used = used_of(&counts);
-    run(
+    run_and_leave(
         entry.magnitude,
+        file,
+        choice.next,
         used,
         &mut halfedges[..h_end],
         &mut positions[..p_end],
-        &mut normals[..n_end],
-        &mut references[..r_end],
+        &normals[..n_end],
+        &references[..r_end],
         &properties[..q_end],
         &numbers,
         &asked,
-    );
-    choice.next
+        choice.magnitude == 1,
+    )
 }
 
 // Every call of a file.

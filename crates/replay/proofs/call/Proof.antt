@@ -65,35 +65,35 @@ used-of-requires c κs = search needs
 array-borrow-prefix-halfedges : tie.Need-array-borrow-prefix-halfedges
 array-borrow-prefix-halfedges c = c .before .before .before .before .before .before .before .before .before .before .before .before .before .before .before .before .before .before .before .before .before .before .signed-list .ensures
 
-slice-aggregate-run : tie.Need-slice-aggregate-run
-slice-aggregate-run c = sym (length-take-le _ _ (c .before .before .before .before .before .before .before .before .before .before .before .before .before .before .before .before .before .before .before .before .before .before .before .signed-list .ensures))
+slice-aggregate-run-and-leave : tie.Need-slice-aggregate-run-and-leave
+slice-aggregate-run-and-leave c = sym (length-take-le _ _ (c .before .before .before .before .before .before .before .before .before .before .before .before .before .before .before .before .before .before .before .before .before .before .before .signed-list .ensures))
 
 array-borrow-prefix-positions : tie.Need-array-borrow-prefix-positions
 array-borrow-prefix-positions c = c .before .before .before .before .before .before .before .before .before .before .before .before .before .before .before .before .before .before .before .before .list2 .ensures
 
-slice-aggregate-run-2 : tie.Need-slice-aggregate-run-2
-slice-aggregate-run-2 c = sym (length-take-le _ _ (c .before .before .before .before .before .before .before .before .before .before .before .before .before .before .before .before .before .before .before .before .before .list2 .ensures))
+slice-aggregate-run-and-leave-2 : tie.Need-slice-aggregate-run-and-leave-2
+slice-aggregate-run-and-leave-2 c = sym (length-take-le _ _ (c .before .before .before .before .before .before .before .before .before .before .before .before .before .before .before .before .before .before .before .before .before .list2 .ensures))
 
-array-borrow-prefix-normals : tie.Need-array-borrow-prefix-normals
-array-borrow-prefix-normals c = c .before .before .before .before .before .before .before .before .before .before .before .before .before .before .before .before .before .before .list3 .ensures
+array-share-prefix-normals : tie.Need-array-share-prefix-normals
+array-share-prefix-normals c = c .before .before .before .before .before .before .before .before .before .before .before .before .before .before .before .before .before .before .list3 .ensures
 
-slice-aggregate-run-3 : tie.Need-slice-aggregate-run-3
-slice-aggregate-run-3 c = sym (length-take-le _ _ (c .before .before .before .before .before .before .before .before .before .before .before .before .before .before .before .before .before .before .before .list3 .ensures))
+slice-aggregate-run-and-leave-3 : tie.Need-slice-aggregate-run-and-leave-3
+slice-aggregate-run-and-leave-3 c = sym (length-take-le _ _ (c .before .before .before .before .before .before .before .before .before .before .before .before .before .before .before .before .before .before .before .list3 .ensures))
 
-array-borrow-prefix-references : tie.Need-array-borrow-prefix-references
-array-borrow-prefix-references c = search needs
+array-share-prefix-references : tie.Need-array-share-prefix-references
+array-share-prefix-references c = search needs
 
-slice-aggregate-run-4 : tie.Need-slice-aggregate-run-4
-slice-aggregate-run-4 c = sym (length-take-le _ _ (c .before .before .before .before .before .before .before .before .before .before .before .before .before .before .before .before .before .signed-list2 .ensures))
+slice-aggregate-run-and-leave-4 : tie.Need-slice-aggregate-run-and-leave-4
+slice-aggregate-run-and-leave-4 c = sym (length-take-le _ _ (c .before .before .before .before .before .before .before .before .before .before .before .before .before .before .before .before .before .signed-list2 .ensures))
 
 array-share-prefix-properties : tie.Need-array-share-prefix-properties
 array-share-prefix-properties c = search needs
 
-slice-aggregate-run-5 : tie.Need-slice-aggregate-run-5
-slice-aggregate-run-5 c = sym (length-take-le _ _ (c .before .before .before .before .before .before .before .before .before .before .before .before .before .before .before .list4 .ensures))
+slice-aggregate-run-and-leave-5 : tie.Need-slice-aggregate-run-and-leave-5
+slice-aggregate-run-and-leave-5 c = sym (length-take-le _ _ (c .before .before .before .before .before .before .before .before .before .before .before .before .before .before .before .list4 .ensures))
 
-run-requires : tie.Need-run-requires
-run-requires c κs = search needs
+run-and-leave-requires : tie.Need-run-and-leave-requires
+run-and-leave-requires c κs = search needs
 
 returns : tie.Need-returns
 returns c = search needs
@@ -122,14 +122,14 @@ call-spec =
     number-requires-2
     used-of-requires
     array-borrow-prefix-halfedges
-    slice-aggregate-run
+    slice-aggregate-run-and-leave
     array-borrow-prefix-positions
-    slice-aggregate-run-2
-    array-borrow-prefix-normals
-    slice-aggregate-run-3
-    array-borrow-prefix-references
-    slice-aggregate-run-4
+    slice-aggregate-run-and-leave-2
+    array-share-prefix-normals
+    slice-aggregate-run-and-leave-3
+    array-share-prefix-references
+    slice-aggregate-run-and-leave-4
     array-share-prefix-properties
-    slice-aggregate-run-5
-    run-requires
+    slice-aggregate-run-and-leave-5
+    run-and-leave-requires
     returns)

@@ -1,9 +1,9 @@
--- `replay::show::list` is safe and ends: what is left of the list falls.
+-- `calltext::show::list` is safe and ends: what is left of the list falls.
 use Prim.Native.Nat.{_-_}
 use lib.ListN.{length}
 use borrow.Author.Needs.{needs}
-use Rattle.replay.proofs.show.list.Statement.{statement}
-use Rattle.replay.proofs.show.list.Tie as tie
+use Rattle.calltext.proofs.show.list.Statement.{statement}
+use Rattle.calltext.proofs.show.list.Tie as tie
 
 abbrev Inv-loop : tie.InvT-loop
 Inv-loop name values i₀ t4 i = Unit {0}

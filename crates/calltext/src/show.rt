@@ -58,3 +58,33 @@ pub fn list(name: &[u8], values: &[u64]) {
     }
     end();
 }
+
+fn of_word(n: u32) -> u64 {
+    n as u64
+}
+
+pub fn words(name: &[u8], values: &[u32]) {
+    io::write_all(STDOUT_FILENO, name);
+    let mut i = 0;
+    while i < values.len() {
+        io::write_all(STDOUT_FILENO, b" ");
+        plain(of_word(values[i]));
+        i += 1;
+    }
+    end();
+}
+
+fn of_byte(n: u8) -> u64 {
+    n as u64
+}
+
+pub fn bytes(name: &[u8], values: &[u8]) {
+    io::write_all(STDOUT_FILENO, name);
+    let mut i = 0;
+    while i < values.len() {
+        io::write_all(STDOUT_FILENO, b" ");
+        plain(of_byte(values[i]));
+        i += 1;
+    }
+    end();
+}

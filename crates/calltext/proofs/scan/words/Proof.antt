@@ -1,10 +1,10 @@
--- `replay::scan::signed_list` reads no more than there is room for: the place in the list falls short of its length.
+-- `calltext::scan::words` reads no more than there is room for: the place in the list falls short of its length.
 use mathlib.Core.Path.{_≡_}
 use Prim.Native.Nat.{_≤_, _-_}
 use lib.ListN.{length}
 use borrow.Author.Needs.{needs}
-use Rattle.replay.proofs.scan.signed_list.Statement.{statement}
-use Rattle.replay.proofs.scan.signed_list.Tie as tie
+use Rattle.calltext.proofs.scan.words.Statement.{statement}
+use Rattle.calltext.proofs.scan.words.Tie as tie
 
 abbrev Inv-loop : tie.InvT-loop
 Inv-loop file at into₀ count next₀ k₀ into next k = (length into ≡ length into₀) × (k ≤ length into₀)
@@ -27,14 +27,14 @@ returns c = search needs
 number-requires-2 : tie.Need-number-requires-2 Inv-loop μ-loop
 number-requires-2 c κs = search needs
 
-signed-requires : tie.Need-signed-requires Inv-loop μ-loop
-signed-requires c κs = search needs
+word-requires : tie.Need-word-requires Inv-loop μ-loop
+word-requires c κs = search needs
 
-mul-t8 : tie.Need-mul-t8 Inv-loop μ-loop
-mul-t8 c = search needs
+mul-into : tie.Need-mul-into Inv-loop μ-loop
+mul-into c = search needs
 
-slice-set-from-into : tie.Need-slice-set-from-into Inv-loop μ-loop
-slice-set-from-into c = search needs
+slice-write-into : tie.Need-slice-write-into Inv-loop μ-loop
+slice-write-into c = search needs
 
 add-k : tie.Need-add-k Inv-loop μ-loop
 add-k c = search needs
@@ -51,8 +51,8 @@ same-length-2 c = search needs
 returns-2 : tie.Need-returns-2 Inv-loop μ-loop
 returns-2 c = search needs
 
-pub signed-list-spec : {M : Type 1} → statement M
-signed-list-spec =
+pub words-spec : {M : Type 1} → statement M
+words-spec =
     tie.close
     (tie.spec
     Inv-loop
@@ -62,9 +62,9 @@ signed-list-spec =
     same-length
     returns
     number-requires-2
-    signed-requires
-    mul-t8
-    slice-set-from-into
+    word-requires
+    mul-into
+    slice-write-into
     add-k
     loop-less
     loop-again

@@ -1,9 +1,9 @@
--- `replay::show::signed_list` is safe and ends: what is left of the list falls.
+-- `calltext::show::words` is safe and ends: what is left of the list falls.
 use Prim.Native.Nat.{_-_}
 use lib.ListN.{length}
 use borrow.Author.Needs.{needs}
-use Rattle.replay.proofs.show.signed_list.Statement.{statement}
-use Rattle.replay.proofs.show.signed_list.Tie as tie
+use Rattle.calltext.proofs.show.words.Statement.{statement}
+use Rattle.calltext.proofs.show.words.Tie as tie
 
 abbrev Inv-loop : tie.InvT-loop
 Inv-loop name values i₀ t4 i = Unit {0}
@@ -23,14 +23,17 @@ slice-aggregate-write-all c = search needs
 write-all-requires-2 : tie.Need-write-all-requires-2 Inv-loop μ-loop
 write-all-requires-2 c κs = search needs
 
-mul-with-sign : tie.Need-mul-with-sign Inv-loop μ-loop
-mul-with-sign c = search needs
+mul-of-word : tie.Need-mul-of-word Inv-loop μ-loop
+mul-of-word c = search needs
 
-shared-slice-copy-out-with-sign : tie.Need-shared-slice-copy-out-with-sign Inv-loop μ-loop
-shared-slice-copy-out-with-sign c = search needs
+shared-slice-read-of-word : tie.Need-shared-slice-read-of-word Inv-loop μ-loop
+shared-slice-read-of-word c = search needs
 
-with-sign-requires : tie.Need-with-sign-requires Inv-loop μ-loop
-with-sign-requires c κs = search needs
+of-word-requires : tie.Need-of-word-requires Inv-loop μ-loop
+of-word-requires c κs = search needs
+
+plain-requires : tie.Need-plain-requires Inv-loop μ-loop
+plain-requires c κs = search needs
 
 add-i : tie.Need-add-i Inv-loop μ-loop
 add-i c = search needs
@@ -47,8 +50,8 @@ end-requires c κs = search needs
 returns : tie.Need-returns Inv-loop μ-loop
 returns c = search needs
 
-pub signed-list-spec : {M : Type 1} → statement M
-signed-list-spec =
+pub words-spec : {M : Type 1} → statement M
+words-spec =
     tie.close
     (tie.spec
     Inv-loop
@@ -57,9 +60,10 @@ signed-list-spec =
     loop-holds
     slice-aggregate-write-all
     write-all-requires-2
-    mul-with-sign
-    shared-slice-copy-out-with-sign
-    with-sign-requires
+    mul-of-word
+    shared-slice-read-of-word
+    of-word-requires
+    plain-requires
     add-i
     loop-less
     loop-again

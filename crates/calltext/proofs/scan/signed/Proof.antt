@@ -1,10 +1,10 @@
--- `replay::scan::signed` is safe: what is subtracted is below 2^31.
+-- `calltext::scan::signed` is safe: what is subtracted is below 2^31.
 use Prim.Native.Nat.{_<_, _^_}
 use native.Mathlib.Omega.{arith}
-use Rattle.replay.proofs.Signs.{plain-bits, less-plain}
+use Rattle.calltext.proofs.Signs.{plain-bits, less-plain}
 use borrow.Author.Needs.{needs}
-use Rattle.replay.proofs.scan.signed.Statement.{statement}
-use Rattle.replay.proofs.scan.signed.Tie as tie
+use Rattle.calltext.proofs.scan.signed.Statement.{statement}
+use Rattle.calltext.proofs.scan.signed.Tie as tie
 
 returns : tie.Need-returns
 returns c = search needs

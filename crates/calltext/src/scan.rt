@@ -128,3 +128,56 @@ pub fn list(file: &[u8], at: usize, into: &mut [u64]) -> Listed
     }
     Listed { length: k, next }
 }
+
+// A number of 32 bits without sign, and of 8; what does not fit is 0.
+fn word(n: u64) -> u32 {
+    if 4294967295 < n {
+        return 0;
+    }
+    n as u32
+}
+
+fn byte(n: u64) -> u8 {
+    if 255 < n {
+        return 0;
+    }
+    n as u8
+}
+
+// A list of numbers of 32 bits without sign.
+pub fn words(file: &[u8], at: usize, into: &mut [u32]) -> Listed
+    ensures { λ r. ⌜ r .length ≤ length (now (into .exit)) ⌝ }
+{
+    let count = number(file, at);
+    let mut next = count.next;
+    let mut k = 0;
+    while k < into.len() {
+        if count.magnitude <= k as u64 {
+            return Listed { length: k, next };
+        }
+        let s = number(file, next);
+        into[k] = word(s.magnitude);
+        next = s.next;
+        k += 1;
+    }
+    Listed { length: k, next }
+}
+
+// A list of bytes.
+pub fn bytes(file: &[u8], at: usize, into: &mut [u8]) -> Listed
+    ensures { λ r. ⌜ r .length ≤ length (now (into .exit)) ⌝ }
+{
+    let count = number(file, at);
+    let mut next = count.next;
+    let mut k = 0;
+    while k < into.len() {
+        if count.magnitude <= k as u64 {
+            return Listed { length: k, next };
+        }
+        let s = number(file, next);
+        into[k] = byte(s.magnitude);
+        next = s.next;
+        k += 1;
+    }
+    Listed { length: k, next }
+}

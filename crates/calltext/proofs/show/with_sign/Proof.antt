@@ -1,9 +1,9 @@
--- `replay::show::with_sign` is safe: the number and 0 less it fit 64 bits.
+-- `calltext::show::with_sign` is safe: the number and 0 less it fit 64 bits.
 use mir.Facts.{toZ-ofZ}
-use Rattle.replay.proofs.Signs.{widens, less-wide, less-counts, counts}
+use Rattle.calltext.proofs.Signs.{widens, less-wide, less-counts, counts}
 use borrow.Author.Needs.{needs}
-use Rattle.replay.proofs.show.with_sign.Statement.{statement}
-use Rattle.replay.proofs.show.with_sign.Tie as tie
+use Rattle.calltext.proofs.show.with_sign.Statement.{statement}
+use Rattle.calltext.proofs.show.with_sign.Tie as tie
 
 cast-wide : tie.Need-cast-wide
 cast-wide c = rw (toZ-ofZ (c .fits .x)) (widens _ (c .fits .x))
