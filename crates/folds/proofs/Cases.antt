@@ -12,8 +12,8 @@ use Rattle.net.specs.Counts.{is-shaped, triangle-capacity-over, vertex-capacity
 use Rattle.soundness.specs.Check.{checkNet}
 use Rattle.soundness.specs.Order.{live as is-live, in-order, first-failing}
 use Rattle.pairing.specs.Pairing.{paired}
-use Rattle.steps.specs.Steps.{middle, running, begin, Going, NoRoom, Stopped, ended}
-use Rattle.example.specs.Example.{row, live, dead as gone, P-rows, P-positions, counts, bare}
+use Rattle.steps.specs.Steps.{running, begin, Stopped}
+use Rattle.example.specs.Example.{row, live, dead as gone, P-rows, counts, bare}
 use Rattle.folds.specs.Folds.{lose, lose-folded, has-pair, joined, join, cleared, clear, take-out, fold-at, fold}
 use Rattle.folds.specs.RemoveIfFolded.{foldNamed, removeIfFolded}
 

@@ -1,6 +1,6 @@
 -- What the step of remove_if_folded leaves alone, on any rows: the free rows. It writes rows and positions in use only.
-use mathlib.Core.Path.{_≡_, refl, _∙_}
-use mathlib.Core.Bool.{Bool, true, false, cond, _&&_, _||_, not}
+use mathlib.Core.Path.{_≡_, _∙_}
+use mathlib.Core.Bool.{Bool, cond, _&&_, _||_, not}
 use mathlib.Core.List.{List}
 use Prim.Native.Nat.{ℕ, _%_, _<_, _≤_}
 use native.Mathlib.Omega.{arith}
@@ -12,7 +12,7 @@ use Rattle.laws.specs.Integers.{eqZ}
 use Rattle.laws.proofs.Tests.{by-test}
 use Rattle.numbers.specs.Numbers.{Named, at, nothing, names, named-or}
 use Rattle.numbers.specs.Next.{next}
-use Rattle.rows.specs.Halfedges.{prop, startOf, endOf, pairOf, none, is-paired, lent-halfedges, rows-from, set-column, empty-row}
+use Rattle.rows.specs.Halfedges.{prop, startOf, endOf, pairOf, none, is-paired, lent-halfedges, rows-from}
 use Rattle.rows.specs.Triples.{lent-triples, put-triple}
 use Rattle.rows.proofs.Columns.{emptied-below, written-below, length-written}
 use Rattle.rows.proofs.Threes.{length-put}
@@ -22,7 +22,7 @@ use Rattle.steps.specs.Steps.{Middle, refused, Stopped, ended, with-positions}
 use Rattle.steps.proofs.Frame.{Frame, frame-same, frame-trans, frame-step, frame-cond, frame-named, frame-rows, frame-ended, frame-positions, put-below}
 use Rattle.triangles.proofs.Parts.{second-in, third-in}
 use Rattle.triangles.proofs.Emptied.{length-empty}
-use Rattle.folds.specs.Folds.{nan, most, lose, lose-folded, has-pair, joined, join, cleared, cleared3, clear, take-out, fold-at, fold}
+use Rattle.folds.specs.Folds.{nan, most, lose, lose-folded, has-pair, joined, join, cleared, clear, take-out, fold-at, fold}
 
 -- the vertices in use are lent
 abbrev pub Fits : Middle → Type 0

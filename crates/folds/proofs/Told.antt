@@ -1,16 +1,16 @@
--- What remove_if_folded does in words: on a sound net, at a live half-edge, it is done; where the two triangles have not folded,
--- and on every refusal, nothing is changed. And two results that its contract allows agree.
+-- What remove_if_folded does in words: on a sound net, at a live half-edge, it is done, with what its step leaves (which the crate
+-- foldsound puts into words); on every refusal nothing is changed. And two results that its contract allows agree.
 use mathlib.Core.Path.{_≡_, refl, sym, ap, _∙_}
-use mathlib.Core.Bool.{Bool, true, false, cond, _&&_, _||_}
+use mathlib.Core.Bool.{Bool, true, false, cond}
 use mathlib.Core.List.{List, []}
 use Prim.Native.Nat.{ℕ}
 use native.Mathlib.Omega.{arith}
 use lib.Dec.{eqb}
 use lib.IntN.{ℤ, pos}
-use Rattle.answers.specs.Answers.{Said, done, shape, unsound, bad-number, dead}
+use Rattle.answers.specs.Answers.{done, dead}
 use Rattle.answers.proofs.Laws.{numbers-differ}
 use Rattle.laws.proofs.Tests.{by-test}
-use Rattle.numbers.specs.Numbers.{Named, at, nothing, names, named-or, halfedgeNumber}
+use Rattle.numbers.specs.Numbers.{Named, at, nothing, names, halfedgeNumber}
 use Rattle.numbers.proofs.Names.{names-at}
 use Rattle.rows.specs.Halfedges.{is-paired}
 use Rattle.net.specs.declared.Counts.{Counts}
@@ -18,7 +18,7 @@ use Rattle.net.specs.Net.{Net}
 use Rattle.net.specs.Sound.{Live, Sound}
 use Rattle.soundness.specs.Check.{checkNet}
 use Rattle.soundness.proofs.Told.{check-sound}
-use Rattle.steps.specs.Steps.{Middle, begin}
+use Rattle.steps.specs.Steps.{begin}
 use Rattle.steps.proofs.Entries.{live-paired, same-row}
 use Rattle.folds.specs.declared.RemoveIfFolded.{RemoveIfFolded}
 use Rattle.folds.specs.declared.RemoveIfFolded.the-variants as R

@@ -1,9 +1,11 @@
--- A sound net stays sound whenever form_loop is done.
+-- What form_loop does in words: whenever it is done a sound net stays sound; where it says 1 to 5 nothing is changed. (Where it says 6
+-- or 7 the rows in use are as they were: loops/proofs/Told.antt, `form-refused`.)
 use mathlib.Core.Path.{_≡_, refl, sym, _∙_}
 use mathlib.Core.Bool.{true, false, true≢false, _&&_}
 use mathlib.Core.List.{List, [], _∷_}
-use Prim.Native.Nat.{ℕ, _+_, _≤_}
+use Prim.Native.Nat.{ℕ, _+_, _<_, _≤_}
 use native.Mathlib.Omega.{arith}
+use lib.Dec.{eqb}
 use lib.IntN.{ℤ, pos}
 use lib.ListN.{length}
 use Rattle.answers.specs.Answers.{whole, done}
@@ -15,19 +17,18 @@ use Rattle.numbers.proofs.Names.{names-below}
 use Rattle.rows.specs.Halfedges.{pairOf, is-paired}
 use Rattle.net.specs.declared.Counts.{Counts}
 use Rattle.net.specs.Net.{Net, net}
-use Rattle.net.specs.Counts.{spare-holds, Shaped, triangle-capacity-over, vertex-capacity-over, property-capacity-over}
+use Rattle.net.specs.Counts.{is-shaped, spare-holds, Shaped, triangle-capacity-over, vertex-capacity-over, property-capacity-over}
 use Rattle.net.specs.Sound.{Live, Sound}
 use Rattle.net.proofs.Shape.{shaped-true, capacities, within}
 use Rattle.soundness.specs.Check.{sound-or, checkNet}
 use Rattle.soundness.specs.Order.{least-out}
 use Rattle.soundness.proofs.Told.{check-sound}
 use Rattle.splitting.specs.Told.{with-vertices}
-use Rattle.pairing.specs.Pairing.{paired}
 use Rattle.steps.specs.declared.How.{How}
 use Rattle.steps.specs.declared.How.the-variants as W
-use Rattle.steps.specs.Steps.{Middle, refused, is-refused, Going, begin, how-said}
+use Rattle.steps.specs.Steps.{Middle, refused, is-refused, begin, how-said}
 use Rattle.loops.specs.Loops.{loop-at}
-use Rattle.loops.specs.FormLoop.{Left, formAt, formNamed, formLoop}
+use Rattle.loops.specs.FormLoop.{Left, left, formAt, formNamed, formLoop}
 use Rattle.loops.proofs.Kept.{frame-loop}
 use Rattle.loopsound.proofs.Steps.{loop-left, loop-in-order}
 
@@ -109,3 +110,40 @@ module _ (c : Counts) (n : Net) (sound : Sound c n) (saved : List ℤ) (held : L
           by-test (is-paired rows a && is-paired rows b)
           (λ u. let p = and2 (is-paired rows a) (is-paired rows b) u in rw u (at-two a b (live first a s (p .0)) (live second b t (p .1))))
           (λ u. rw u (λ e. numbers-differ e (λ z. omega arith)))
+
+-- steps that are done, have no room or are stopped say 0, 6 or 7
+steps-say : (u : ℕ) (w : How) → 0 < how-said u w .number → how-said u w .number < 6 → ⊥
+steps-say u W.Going a b = omega arith
+steps-say u W.NoRoom a b = omega arith
+steps-say u W.Stopped a b = omega arith
+
+-- where form_loop says 1 to 5, everything lent to it is as at entry
+module _ (c : Counts) (n : Net) (saved : List ℤ) (held : List ℕ) (first second : ℤ) where
+  abbrev Kept : Left → Type 0
+  Kept o = 0 < o .said .number → o .said .number < 6 → o ≡ left (o .said) (n .halfedges) (n .positions) saved held
+
+  pub form-unchanged : Kept (formLoop c n saved held first second)
+  unfolding formLoop formNamed formAt
+  form-unchanged =
+      by-test (is-shaped c n)
+      (λ t. rw t (by-test (spare-holds c saved held)
+      (λ u. rw u (by-test (eqb (sound-or (least-out (c .halfedges) (c .vertices) (n .halfedges)) .number) 0)
+      (λ v. rw v (go (names first (c .halfedges)) (names second (c .halfedges))))
+      (λ v. rw v (λ x y. refl))))
+      (λ u. rw u (λ x y. refl))))
+      (λ t. rw t (λ x y. refl))
+    where
+      past : (a b : ℕ) → Kept (formAt (c .halfedges) (c .vertices) (vertex-capacity-over (n .positions)) a b (n .halfedges) (n .positions) saved held)
+      past a b =
+          let m = loop-at (c .halfedges) (vertex-capacity-over (n .positions)) a b (begin (n .halfedges) (n .positions) (c .vertices)) in
+          by-test (refused m)
+          (λ t. rw t (λ x y. absurd (steps-say (m .run .vertices) (m .run .how) x y)))
+          (λ t. rw t (λ x y. absurd (steps-say (m .run .vertices) (m .run .how) x y)))
+
+      go : (v w : Named) → Kept (formNamed (c .halfedges) (c .vertices) (n .halfedges) (n .positions) saved held v w)
+      go nothing w = λ x y. refl
+      go (at a) nothing = λ x y. refl
+      go (at a) (at b) =
+          by-test (is-paired (n .halfedges) a && is-paired (n .halfedges) b)
+          (λ t. rw t (past a b))
+          (λ t. rw t (λ x y. refl))
