@@ -36,10 +36,11 @@ fn turn_of(rows: &[i32], h: Halfedge, halfedges: usize) -> Halfedge
     partner_of(rows, h, halfedges).next()
 }
 
-// The bits of an entry of the work buffer, beside the half-edge that it names.
+// The bits of an entry of the work buffer, beside the half-edge that it names: that half-edge k was walked; and, with the last of a fan,
+// that the fan is to get a copy.
 const WALKED: u32 = 2147483648;
 
-const COPY: usize = 1073741824;
+pub const COPY: usize = 1073741824;
 
 // Sets the walked bit of half-edge h.
 fn see(work: &mut [u32], h: usize)

@@ -30,8 +30,8 @@ use Rattle.splitting.specs.Steps.{relabel-walk, noted, State, state, first-fan,
 use Rattle.splitting.proofs.Inv.{Done, flag-clear, end-once, end-only}
 use Rattle.splitting.proofs.Net.{T, row-of, same, inV}
 use Rattle.splitting.proofs.Split.{flag-at, mark-at, fan-live, flags-noted, mark-noted, marks-other, Ok, turns-same, live-here, v-in, visits-fit, step-ok, begin-ok}
-use Rattle.ordering.specs.Order.{walked-bit, copy-bit, is-walked, entry, order-walk, Order, order, is-first, order-fan, order-named, order-row, order-rows, Written, written, copy-named, copy-at, write-order}
-use Rattle.ordering.proofs.Steps.{step-flagged, step-unnamed, step-fan}
+use Rattle.ordering.specs.Order.{walked-bit, copy-bit, is-walked, entry, order-walk, Order, order, is-first, order-fan, order-row, order-rows, Written, written, copy-named, copy-at, write-order}
+use Rattle.ordering.proofs.Steps.{step-flagged, step-unnamed, step-fan, order-walked, order-unwalked}
 use Rattle.ordering.proofs.Words.{bit}
 use Rattle.ordering.proofs.Walks.{Below, length-ordered, ordered-out, ordered-in, ordered-behind, ordered-beyond, ordered-all}
 use Rattle.ordering.proofs.Writes.{same-order, write-walk, ordered-writes, writes-first, writes-later}
@@ -233,26 +233,18 @@ module _ {H N : ℕ} {rows : List ℤ} {positions work₀ visit₀ : List ℕ} (
         subst (λ x. Along H N rows positions work₀ visit₀ (suc i) x (split-step H N i s)) (sym e)
         (subst (Along H N rows positions work₀ visit₀ (suc i) o′) f (k (subst (Ok H N rows positions work₀ visit₀ (suc i)) (sym f) next-ok)))
 
-    row-walked : is-walked (o .work) i ≡ true → order-row H N rows i o ≡ o
-    unfolding order-row
-    row-walked e = rw e
-
-    row-named : is-walked (o .work) i ≡ false → (z : Named) → names (startOf rows i) N ≡ z → order-row H N rows i o ≡ order-named H i (walk (turn rows) H i i) o z
-    unfolding order-row
-    row-named e z f = rw (e, f)
-
     at-name : is-walked (o .work) i ≡ false → (z : Named) → names (startOf (s .halfedges) i) N ≡ z → Along H N rows positions work₀ visit₀ (suc i) (order-row H N rows i o) (split-step H N i s)
     at-name e nothing n =
-        rest o s (row-named e nothing (ap (λ x. names x N) (sym (start-kept (unwalked e))) ∙ n)) (step-unnamed H N i s (unwalked e) n) stay
+        rest o s (order-unwalked H N rows i o e nothing (ap (λ x. names x N) (sym (start-kept (unwalked e))) ∙ n)) (step-unnamed H N i s (unwalked e) n) stay
     at-name e (at v) n =
         let p : startOf (s .halfedges) i ≡ pos v = names-is (startOf (s .halfedges) i) N n in
         rest (order-fan H i v (walk (turn rows) H i i) o) (split-fan H N v (walk (turn rows) H i i) s (ℕ-discrete (mark-at H (s .work) v) 0))
-        (row-named e (at v) (ap (λ x. names x N) (sym (start-kept (unwalked e))) ∙ n))
+        (order-unwalked H N rows i o e (at v) (ap (λ x. names x N) (sym (start-kept (unwalked e))) ∙ n))
         (ap (λ (t : ℕ → ℕ). split-fan H N v (walk t H i i) s (ℕ-discrete (mark-at H (s .work) v) 0)) (sym (turns-same S long i s b (A .ok))) ∙ step-fan H N i s (unwalked e) v n)
         (at-vertex v p n (live-here S long i s b (A .ok) v p) (flag-clear (T S) (same S) (inV S) (A .ok .inv) i b (unwalked e)) (ℕ-discrete (mark-at H (s .work) v) 0))
 
     pub along-on : Along H N rows positions work₀ visit₀ (suc i) (order-row H N rows i o) (split-step H N i s)
-    along-on = by-test (is-walked (o .work) i) (λ e. rest o s (row-walked e) (step-flagged H N i s (walked e)) stay) (λ e. at-name e (names (startOf (s .halfedges) i) N) refl)
+    along-on = by-test (is-walked (o .work) i) (λ e. rest o s (order-walked H N rows i o e) (step-flagged H N i s (walked e)) stay) (λ e. at-name e (names (startOf (s .halfedges) i) N) refl)
 
   pub along : ((k : ℕ) → k < H + N → getD work₀ k 0 ≡ 0) → (i : ℕ) → i ≤ H
       → Along H N rows positions work₀ visit₀ i (order-rows H N rows i (order work₀ 0 0)) (split-rows H N i (state rows positions work₀ visit₀ 0 0))

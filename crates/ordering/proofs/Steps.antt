@@ -1,15 +1,18 @@
--- The ways through one half-edge, of the steps of splitting.
+-- The ways through one half-edge, of the steps of splitting and of the first pass.
 use mathlib.Core.Path.{_≡_, refl, sym, ap, _∙_}
 use mathlib.Core.Logic.{_≢_}
+use mathlib.Core.Bool.{true, false}
 use mathlib.Core.List.{List}
 use Prim.Native.Nat.{ℕ, _+_}
 use native.Mathlib.Decide.{ℕ-discrete}
+use lib.IntN.{ℤ}
 use lib.ListN.{getD}
 use Rattle.numbers.specs.Numbers.{Named, at, nothing, names}
 use Rattle.rows.specs.Halfedges.{startOf}
 use Rattle.net.specs.Sound.{turn}
 use Rattle.turning.specs.Walk.{walk}
 use Rattle.splitting.specs.Steps.{State, split-fan, split-row, split-step}
+use Rattle.ordering.specs.Order.{is-walked, Order, order-named, order-row}
 
 module _ (H N i : ℕ) (s : State) where
   abbrev fan : List ℕ
@@ -39,3 +42,12 @@ module _ (H N i : ℕ) (s : State) where
       → split-fan H N v fan s (ℕ-discrete (getD (s .work) (H + v) 0) 0) ≡ split-step H N i s
   unfolding split-step
   step-fan f v e = sym (ap (split-row H N fan s (ℕ-discrete (getD (s .work) i 0) 0)) e ∙ by-fan-split (ℕ-discrete (getD (s .work) i 0) 0) v f)
+
+module _ (H N : ℕ) (rows : List ℤ) (i : ℕ) (o : Order) where
+  pub order-walked : is-walked (o .work) i ≡ true → order-row H N rows i o ≡ o
+  unfolding order-row
+  order-walked e = rw e
+
+  pub order-unwalked : is-walked (o .work) i ≡ false → (z : Named) → names (startOf rows i) N ≡ z → order-row H N rows i o ≡ order-named H i (walk (turn rows) H i i) o z
+  unfolding order-row
+  order-unwalked e z f = rw (e, f)

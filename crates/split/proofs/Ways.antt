@@ -6,14 +6,15 @@ use Prim.Native.Nat.{ℕ, _+_, _≤_}
 use native.Mathlib.Omega.{arith}
 use lib.IntN.{ℤ}
 use lib.ListN.{length, set}
-use Rattle.numbers.specs.Numbers.{Named, at, nothing, names}
+use Rattle.numbers.specs.Numbers.{at, nothing, names}
 use Rattle.rows.specs.Halfedges.{startOf}
 use Rattle.net.specs.Counts.{vertex-capacity-over, most-vertices}
 use Rattle.net.specs.Sound.{turn}
 use Rattle.turning.specs.Walk.{walk}
 use Rattle.fanwalks.specs.declared.Behind.the-variants as B
-use Rattle.ordering.specs.Order.{is-walked, order-walk, Order, order, is-first, order-fan, order-named, order-row}
+use Rattle.ordering.specs.Order.{is-walked, order-walk, Order, order, is-first, order-fan, order-row}
 use Rattle.ordering.specs.Needs.{FanOrder}
+use Rattle.ordering.proofs.Steps.{order-walked, order-unwalked}
 use Rattle.split.specs.declared.Ordered.{Ordered}
 use Rattle.split.specs.declared.Ordered.the-variants as O
 use Rattle.split.specs.Answer.{Gives}
@@ -54,23 +55,15 @@ module _ (H N : ℕ) (rows : List ℤ) (i : ℕ) (work : List ℕ) (added steps 
   abbrev o : Order
   o = order work added steps
 
-  walked-row : is-walked work i ≡ true → order-row H N rows i o ≡ o
-  unfolding order-row
-  walked-row e = rw e
-
-  named-row : is-walked work i ≡ false → (z : Named) → names (startOf rows i) N ≡ z → order-row H N rows i o ≡ order-named H i (walk (turn rows) H i i) o z
-  unfolding order-row
-  named-row e z f = rw (e, f)
-
   pub row-walked : is-walked work i ≡ true → Gives (O.To added steps) work (order-row H N rows i o)
-  row-walked e = subst (λ x. Gives (O.To added steps) work x) (sym (walked-row e)) (refl, refl)
+  row-walked e = subst (λ x. Gives (O.To added steps) work x) (sym (order-walked H N rows i o e)) (refl, refl)
 
   pub row-unnamed : is-walked work i ≡ false → names (startOf rows i) N ≡ nothing → Gives (O.To added steps) work (order-row H N rows i o)
-  row-unnamed e f = subst (λ x. Gives (O.To added steps) work x) (sym (named-row e nothing f)) (refl, refl)
+  row-unnamed e f = subst (λ x. Gives (O.To added steps) work x) (sym (order-unwalked H N rows i o e nothing f)) (refl, refl)
 
   pub row-fan : is-walked work i ≡ false → (v : ℕ) → names (startOf rows i) N ≡ at v → (r : Ordered) (work′ : List ℕ)
       → Gives r work′ (order-fan H i v (walk (turn rows) H i i) o) → Gives r work′ (order-row H N rows i o)
-  row-fan e v f r work′ g = subst (λ x. Gives r work′ x) (sym (named-row e (at v) f)) g
+  row-fan e v f r work′ g = subst (λ x. Gives r work′ x) (sym (order-unwalked H N rows i o e (at v) f)) g
 
 -- what is given, as one
 pub given : (a k : ℕ) (work : List ℕ) (o : Order) (r : Ordered) → r ≡ O.To a k → Gives r work o → order work a k ≡ o

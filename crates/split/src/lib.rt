@@ -15,6 +15,7 @@ ghost use Rattle.ordering.specs.Order.{order, order-fan, order-row, order-rows,
 ghost use Rattle.ordering.specs.Needs.{FanOrder, RowOrder, EntryNeeds, OrderNeeds};
 ghost use Rattle.split.specs.Answer.{Gives, splitSaid};
 use fanwalks::Behind;
+use fanwalks::COPY;
 use net::Counts;
 use numbers::Halfedge;
 use numbers::NamedHalfedge;
@@ -91,9 +92,6 @@ fn order_rows(rows: &[i32], work: &mut [u32], halfedges: usize, vertices: usize)
     }
     Ordered::To(added, steps)
 }
-
-// What a copied fan's last half-edge has beside its number, in the order.
-const COPY: usize = 1073741824;
 
 // Place k of the order, where x stands: its half-edge is listed; with the last of a fan that gets a copy, that fan is split. How many
 // vertices are added then.
