@@ -1,15 +1,14 @@
 -- The two passes go along with the steps of splitting: before half-edge i the bits and marks of the first pass are the flags and marks
 -- of the steps, and what the second pass makes of the order so far is what the steps have written.
 use mathlib.Core.Path.{_≡_, refl, sym, ap, _∙_, subst}
-use mathlib.Core.Logic.{_⊎_, inl, inr, _≢_}
+use mathlib.Core.Logic.{_≢_}
 use mathlib.Core.Bool.{Bool, true, false, cond}
 use mathlib.Core.List.{List}
 use Prim.Native.Nat.{ℕ, zero, suc, _+_, _/_, _%_, _<_, _≤_}
 use native.Mathlib.Omega.{arith}
 use native.Mathlib.Decide.{ℕ-discrete}
 use borrow.Author.Tests.{leb-true, leb-false, eq-eqb, ne-eqb}
-use lib.Dec.{leb}
-use lib.IntN.{ℤ, pos, natAbs}
+use lib.IntN.{ℤ, pos}
 use lib.ListN.{length, getD, set, drop, length-set}
 use lib.Seq.{getD-set-same, getD-set-other, drop-set-lt, sets}
 use Rattle.laws.proofs.Tests.{by-test}
@@ -17,7 +16,7 @@ use Rattle.numbers.specs.Numbers.{Named, at, nothing, names}
 use Rattle.numbers.proofs.Names.{names-is}
 use Rattle.rows.specs.Halfedges.{startOf}
 use Rattle.rows.specs.Triples.{triple, put-triple}
-use Rattle.net.specs.Sound.{start-vertex, turn, Live}
+use Rattle.net.specs.Sound.{turn, Live}
 use Rattle.net.proofs.Sound.{live-dec}
 use Rattle.turning.specs.Fan.{Reach, occ}
 use Rattle.turning.specs.Walk.{walk}
@@ -26,11 +25,11 @@ use Rattle.turning.proofs.Occ.{count-length}
 use Rattle.turning.proofs.Orbit.{reach-dec}
 use Rattle.turning.proofs.Walk.{walk-once, walk-only, walk-home}
 use Rattle.splitting.specs.Needs.{SoundRows}
-use Rattle.splitting.specs.Steps.{relabel-walk, noted, State, state, first-fan, later-fan, split-fan, split-row, split-step, split-rows}
+use Rattle.splitting.specs.Steps.{relabel-walk, noted, State, state, first-fan, later-fan, split-fan, split-step, split-rows}
 use Rattle.splitting.proofs.Inv.{Done, flag-clear, end-once, end-only}
 use Rattle.splitting.proofs.Net.{T, row-of, same, inV}
 use Rattle.splitting.proofs.Split.{flag-at, mark-at, fan-live, flags-noted, mark-noted, marks-other, Ok, turns-same, live-here, v-in, visits-fit, step-ok, begin-ok}
-use Rattle.ordering.specs.Order.{walked-bit, copy-bit, is-walked, entry, order-walk, Order, order, is-first, order-fan, order-row, order-rows, Written, written, copy-named, copy-at, write-order}
+use Rattle.ordering.specs.Order.{walked-bit, copy-bit, is-walked, entry, order-walk, Order, order, order-fan, order-row, order-rows, Written, written, copy-named, copy-at, write-order}
 use Rattle.ordering.proofs.Steps.{step-flagged, step-unnamed, step-fan, order-walked, order-unwalked}
 use Rattle.ordering.proofs.Words.{bit}
 use Rattle.ordering.proofs.Walks.{Below, length-ordered, ordered-out, ordered-in, ordered-behind, ordered-beyond, ordered-all}

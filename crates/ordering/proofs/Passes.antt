@@ -9,24 +9,24 @@ use native.Mathlib.Omega.{arith}
 use borrow.Author.Tests.{leb-true, leb-false, le-leb, lt-leb}
 use lib.Dec.{leb}
 use lib.IntN.{ℤ}
-use lib.ListN.{length, getD, set, drop, length-set}
+use lib.ListN.{length, getD, length-set}
 use Rattle.laws.proofs.Tests.{by-test}
 use Rattle.numbers.specs.Numbers.{Named, at, nothing, names}
 use Rattle.numbers.proofs.Names.{names-is}
 use Rattle.rows.specs.Halfedges.{startOf, pairOf}
-use Rattle.rows.specs.Triples.{triple, put-triple, lent-triples}
+use Rattle.rows.specs.Triples.{triple, lent-triples}
 use Rattle.rows.proofs.Threes.{length-put}
 use Rattle.net.specs.Counts.{vertex-capacity-over}
-use Rattle.net.specs.Sound.{turn, Live}
+use Rattle.net.specs.Sound.{turn}
 use Rattle.turning.specs.Walk.{walk}
 use Rattle.turning.proofs.Walk.{walk-home}
-use Rattle.splitting.specs.Needs.{SoundRows, Round}
+use Rattle.splitting.specs.Needs.{SoundRows}
 use Rattle.splitting.specs.Steps.{relabel, relabel-walk, State, state, split-rows}
 use Rattle.splitting.proofs.Inv.{flag-clear}
 use Rattle.splitting.proofs.Net.{T, same, inV, round-of, live-there, round-kept}
 use Rattle.splitting.proofs.Rows.{length-relabel, relabel-pair}
 use Rattle.splitting.proofs.Split.{live-here}
-use Rattle.ordering.specs.Order.{walked-bit, copy-bit, is-walked, entry, Order, order, order-row, order-rows, Written, written, copy-named, copy-at, listed, write-entry, write-order}
+use Rattle.ordering.specs.Order.{copy-bit, is-walked, entry, order, order-row, order-rows, Written, written, copy-named, copy-at, listed, write-entry, write-order}
 use Rattle.ordering.specs.Needs.{FanOrder, RowOrder, EntryNeeds, OrderNeeds}
 use Rattle.ordering.proofs.Along.{Along, along, start-kept, unwalked, fits}
 

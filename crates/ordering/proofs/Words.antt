@@ -1,12 +1,12 @@
 -- The two parts of an entry of the work buffer do not disturb each other.
-use mathlib.Core.Path.{_≡_, refl, sym, ap, _∙_, subst}
+use mathlib.Core.Path.{_≡_, sym, ap, _∙_, subst}
 use mathlib.Core.Logic.{_≢_}
 use mathlib.Core.List.{List}
-use Prim.Native.Nat.{ℕ, _+_, _*_, _/_, _%_, _<_, _≤_}
+use Prim.Native.Nat.{ℕ, _+_, _*_, _/_, _%_, _<_}
 use native.Mathlib.Omega.{arith}
 use native.Mathlib.Decide.{ℕ-discrete}
-use lib.ListN.{length, getD, set, drop, length-set}
-use lib.Seq.{getD-set-same, getD-set-other, drop-set-lt}
+use lib.ListN.{length, getD}
+use lib.Seq.{getD-set-same, getD-set-other}
 use Rattle.ordering.specs.Order.{walked-bit, see, place, entry}
 
 -- the walked bit of half-edge h, as a number

@@ -1,19 +1,18 @@
 -- The second pass over a walk that was put into the order: it is listed, and the fan of a later one is split as the steps split it.
-use mathlib.Core.Path.{_≡_, refl, sym, ap, _∙_, subst}
+use mathlib.Core.Path.{_≡_, refl, sym, ap, _∙_}
 use mathlib.Core.Logic.{_≢_}
 use mathlib.Core.Bool.{Bool, true, false}
 use mathlib.Core.List.{List, [], _∷_}
-use Prim.Native.Nat.{ℕ, zero, suc, _+_, _/_, _%_, _<_, _≤_}
+use Prim.Native.Nat.{ℕ, zero, suc, _+_, _%_, _<_, _≤_}
 use native.Mathlib.Omega.{arith}
 use native.Mathlib.Nat.{add-zero, suc-add, add-suc}
 use native.Mathlib.Decide.{ℕ-discrete}
 use borrow.Author.Tests.{le-leb, lt-leb}
-use lib.ListN.{length, getD, set}
+use lib.ListN.{length, set}
 use lib.Seq.{sets}
-use Rattle.turning.specs.Fan.{occ}
 use Rattle.turning.specs.Walk.{walk, cut, walk-end, stop}
-use Rattle.turning.proofs.Occ.{occ-head, occ-tail}
-use Rattle.ordering.specs.Order.{walked-bit, copy-bit, entry, told, entry-of, order-walk, Written, written, copy-at, listed, write-entry, write-order}
+use Rattle.turning.proofs.Occ.{occ-head}
+use Rattle.ordering.specs.Order.{copy-bit, entry, told, entry-of, order-walk, Written, written, copy-at, listed, write-entry, write-order}
 use Rattle.ordering.proofs.Walks.{entry-home, entry-elsewhere, Below, below-tail, put-one, length-one, one-entry, one-entry-other}
 
 module _ (H N : ℕ) where

@@ -16,7 +16,7 @@ use Rattle.splitting.specs.Needs.{SoundRows}
 use Rattle.splitting.specs.Steps.{Tallied, tallied, unclosed, count, State, state, split-rows}
 use Rattle.splitting.specs.Split.{Outcome, outcome, cleared, done-with, all-split, by-room, by-count, split-sound}
 use Rattle.splitting.proofs.Net.{round-of}
-use Rattle.splitting.proofs.Clear.{length-cleared, cleared-zero, cleared-beyond, cleared-same}
+use Rattle.splitting.proofs.Clear.{cleared-zero, cleared-beyond, cleared-same}
 use Rattle.splitting.proofs.Told.{by-pass}
 use Rattle.ordering.specs.Order.{order, order-rows, Written, written, write-order}
 use Rattle.ordering.specs.Needs.{OrderNeeds}

@@ -1,5 +1,4 @@
 -- `fanwalks::copy_fan` meets its contract: what is appended is the position that was read.
-use mathlib.Core.Path.{_≡_}
 use borrow.Author.Needs.{needs}
 use Rattle.fanwalks.proofs.copy_fan.Statement.{statement}
 use Rattle.fanwalks.proofs.copy_fan.Tie as tie

@@ -3,7 +3,7 @@ use mathlib.Core.Path.{sym, ap, _∙_, subst}
 use Prim.Native.Nat.{_-_}
 use native.Mathlib.Omega.{arith}
 use Rattle.numbers.specs.Numbers.{halfedgeNumber}
-use Rattle.ordering.specs.Order.{Order, order, order-row, order-rows}
+use Rattle.ordering.specs.Order.{Order, order, order-row}
 use Rattle.ordering.specs.Needs.{RowOrder}
 use Rattle.ordering.proofs.Passes.{Ordered, ordered-begins, ordered-length, ordered-needs, ordered-on, ordered-done}
 use Rattle.split.specs.declared.Ordered.the-variants as O

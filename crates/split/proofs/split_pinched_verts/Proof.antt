@@ -3,7 +3,7 @@ use mathlib.Core.Path.{sym, ap, _∙_}
 use mathlib.Core.Bool.{_&&_}
 use native.Mathlib.Omega.{arith}
 use borrow.Author.Tests.{not-true, not-false}
-use Rattle.numbers.specs.Numbers.{halfedgeNumber, halfedgeNamed}
+use Rattle.numbers.specs.Numbers.{halfedgeNamed}
 use Rattle.net.specs.Net.{net}
 use Rattle.net.proofs.Shape.{shaped-yes, within}
 use Rattle.splitting.proofs.Net.{sound-rows}

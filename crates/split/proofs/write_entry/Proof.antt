@@ -1,12 +1,11 @@
 -- `split::write_entry` meets its contract: listed only, or the fan split too.
-use mathlib.Core.Path.{_≡_, sym, ap, _∙_, subst}
+use mathlib.Core.Path.{sym, ap, _∙_, subst}
 use Prim.Native.Nat.{_+_, _%_, _≤_}
 use native.Mathlib.Omega.{arith}
 use lib.ListN.{set}
 use Rattle.numbers.specs.Numbers.{vertexNamed, names, at, nothing}
 use Rattle.numbers.proofs.Names.{names-below}
 use Rattle.rows.specs.Halfedges.{startOf}
-use Rattle.rows.specs.Triples.{triple, put-triple}
 use Rattle.net.specs.Sound.{turn, Live}
 use Rattle.turning.specs.Walk.{walk}
 use Rattle.splitting.specs.Steps.{relabel-walk}

@@ -5,8 +5,6 @@ use native.Mathlib.Omega.{arith}
 use Rattle.ordering.specs.Order.{written, write-entry}
 use Rattle.ordering.specs.Needs.{EntryNeeds}
 use Rattle.ordering.proofs.Passes.{Writing, writing-begins, writing-needs, writing-on, writing-done}
-use borrow.Author.Needs.{needs}
-use borrow.Author.Needs.{needs}
 use Rattle.split.proofs.write_order.Statement.{statement}
 use Rattle.split.proofs.write_order.Tie as tie
 
