@@ -1,7 +1,10 @@
 // The exported functions called on stored calls: each prints what it says, and the buffers that it was lent as they are left.
 use calltext::show;
+use station::LoopAnswer;
+use station::OwnersAnswer;
 use station::Point;
 use station::RowAnswer;
+use station::SplitAnswer;
 use station::Used;
 
 pub fn next_halfedge(numbers: &[i32; 8]) {
@@ -153,6 +156,14 @@ pub fn remove_if_folded(
     say_row(b"remove_if_folded", told);
 }
 
+fn say_split(told: SplitAnswer) {
+    show::number(b"split_pinched_verts", told.number);
+    show::count(b" row=", told.row as u64);
+    show::count(b" added=", told.added as u64);
+    show::count(b" steps=", told.steps as u64);
+    show::end();
+}
+
 pub fn split_pinched_verts(
     used: Used,
     halfedges: &mut [i32],
@@ -173,13 +184,15 @@ pub fn split_pinched_verts(
         work,
         visit,
     );
-    show::number(b"split_pinched_verts", told.number);
-    show::count(b" row=", told.row as u64);
-    show::count(b" added=", told.added as u64);
-    show::count(b" steps=", told.steps as u64);
-    show::end();
+    say_split(told);
     show::words(b"work", work);
     show::words(b"visit", visit);
+}
+
+fn say_owners(told: OwnersAnswer) {
+    show::number(b"orbit_owners", told.number);
+    show::count(b" count=", told.count as u64);
+    show::end();
 }
 
 pub fn orbit_owners(
@@ -204,11 +217,16 @@ pub fn orbit_owners(
         list,
         end_too,
     );
-    show::number(b"orbit_owners", told.number);
-    show::count(b" count=", told.count as u64);
-    show::end();
+    say_owners(told);
     show::bytes(b"work", work);
     show::words(b"list", list);
+}
+
+fn say_loop(told: LoopAnswer) {
+    show::number(b"form_loop", told.number);
+    show::count(b" row=", told.row as u64);
+    show::count(b" vertices=", told.vertices as u64);
+    show::end();
 }
 
 pub fn form_loop(
@@ -234,10 +252,7 @@ pub fn form_loop(
         numbers[0],
         numbers[1],
     );
-    show::number(b"form_loop", told.number);
-    show::count(b" row=", told.row as u64);
-    show::count(b" vertices=", told.vertices as u64);
-    show::end();
+    say_loop(told);
     show::signed_list(b"spare_halfedges", spare_halfedges);
     show::list(b"spare_positions", spare_positions);
 }

@@ -308,45 +308,89 @@ fn run_and_leave(
     next
 }
 
+// The rest of a call, once its net is read: what is asked, and the choice.
+fn ask(
+    entry: u64,
+    file: &[u8],
+    at: usize,
+    used: Used,
+    halfedges: &mut [i32],
+    positions: &mut [u64],
+    normals: &[u64],
+    references: &[i32],
+    properties: &[u64],
+) -> usize {
+    let mut numbers = [0i32; 8];
+    let mut asked = [0u64; 8];
+    let a = scan::signed_list(file, at, &mut numbers);
+    let f = scan::list(file, a.next, &mut asked);
+    let choice = scan::number(file, f.next);
+    run_and_leave(
+        entry,
+        file,
+        choice.next,
+        used,
+        halfedges,
+        positions,
+        normals,
+        references,
+        properties,
+        &numbers,
+        &asked,
+        choice.magnitude == 1,
+    )
+}
+
+// The rest of a call, once its half-edges and positions are read: the faces' arrays and the properties.
+fn read_faces(
+    entry: u64,
+    file: &[u8],
+    at: usize,
+    used: Used,
+    halfedges: &mut [i32],
+    positions: &mut [u64],
+) -> usize {
+    let mut normals = [0u64; 512];
+    let mut references = [0i32; 512];
+    let mut properties = [0u64; 512];
+    let n = scan::list(file, at, &mut normals);
+    let r = scan::signed_list(file, n.next, &mut references);
+    let q = scan::list(file, r.next, &mut properties);
+    let n_end = n.length;
+    let r_end = r.length;
+    let q_end = q.length;
+    ask(
+        entry,
+        file,
+        q.next,
+        used,
+        halfedges,
+        positions,
+        &normals[..n_end],
+        &references[..r_end],
+        &properties[..q_end],
+    )
+}
+
 // One call; the place behind it.
 fn call(file: &[u8], at: usize) -> usize {
     let entry = scan::number(file, at);
     let mut counts = [0u64; 6];
     let mut halfedges = [0i32; 1024];
     let mut positions = [0u64; 512];
-    let mut normals = [0u64; 512];
-    let mut references = [0i32; 512];
-    let mut properties = [0u64; 512];
-    let mut numbers = [0i32; 8];
-    let mut asked = [0u64; 8];
     let u = scan::list(file, entry.next, &mut counts);
     let h = scan::signed_list(file, u.next, &mut halfedges);
     let p = scan::list(file, h.next, &mut positions);
-    let n = scan::list(file, p.next, &mut normals);
-    let r = scan::signed_list(file, n.next, &mut references);
-    let q = scan::list(file, r.next, &mut properties);
-    let a = scan::signed_list(file, q.next, &mut numbers);
-    let f = scan::list(file, a.next, &mut asked);
-    let choice = scan::number(file, f.next);
     let h_end = h.length;
     let p_end = p.length;
-    let n_end = n.length;
-    let r_end = r.length;
-    let q_end = q.length;
     let used = used_of(&counts);
-    run_and_leave(
+    read_faces(
         entry.magnitude,
         file,
-        choice.next,
+        p.next,
         used,
         &mut halfedges[..h_end],
         &mut positions[..p_end],
-        &normals[..n_end],
-        &references[..r_end],
-        &properties[..q_end],
-        &numbers,
-        &asked,
-        choice.magnitude == 1,
     )
 }
 
