@@ -3,10 +3,10 @@
 use mathlib.Core.Path.{_≡_, refl, sym, ap, _∙_}
 use mathlib.Core.List.{List, [], _∷_, _++_, append-assoc, append-nil}
 use Prim.Native.Nat.{ℕ, zero, suc, _+_, _-_, _≤_, _<_}
-use native.Mathlib.Nat.{le-of-eq, zero-add, suc-add, add-zero}
+use native.Mathlib.Nat.{le-of-eq, zero-add, add-zero, suc-add, add-suc}
 use native.Mathlib.Numerals.{add-one}
 use native.Mathlib.Omega.{arith}
-use lib.ListN.{length, getD, set, take, drop, replicate, length-append, length-drop, length-replicate, take-append-drop, replicate-append-replicate, drop-of-length-le, List·getD-append}
+use lib.ListN.{length, getD, set, take, drop, replicate, length-append, length-drop, length-replicate, getD-replicate, take-append-drop, replicate-append-replicate, drop-of-length-le, List·getD-append}
 use lib.Seq.{take-suc, take-all, drop-cons, append-snoc, set-at, take-at, drop-at, length-take-le, drop-drop, getD-take, getD-append-add, sets, sets-eq}
 use borrow.Rule.Slice.PartMut.{putMid}
 use Rattle.laws.specs.Stretches.{over, put-at, filled}
@@ -63,6 +63,18 @@ module _ {A : Type 0} where
   length-filled z a b d h l =
       omega (arith, length-append (take a d) (replicate (b - a) z ++ drop b d), length-append (replicate (b - a) z) (drop b d), length-take-le a d (omega arith), length-replicate (b - a) z, length-drop b d)
 
+  -- a front that was filled: what it reads, and what is beyond it; what was in the front before does not matter, so filled again,
+  -- having changed in the front alone, it is as it was filled first
+  pub filled-reads : (z : A) (n : ℕ) (d : List A) (k : ℕ) → k < n → getD (filled z 0 n d) k z ≡ z
+  filled-reads z n d k l =
+      List·getD-append (replicate (n - 0) z) (drop n d) z k (omega (arith, length-replicate (n - 0) z)) ∙ getD-replicate (n - 0) k z z (omega arith)
+
+  pub filled-beyond : (z : A) (n : ℕ) (d : List A) → drop n (filled z 0 n d) ≡ drop n d
+  filled-beyond z n d = drop-at (replicate (n - 0) z) (drop n d) n (omega (arith, length-replicate (n - 0) z))
+
+  pub filled-again : (z : A) (n : ℕ) (d w w' : List A) → drop n w ≡ drop n (filled z 0 n d) → w' ≡ filled z 0 n w → w' ≡ filled z 0 n d
+  filled-again z n d w w' e q = q ∙ ap (λ (t : List A). replicate (n - 0) z ++ t) (e ∙ filled-beyond z n d)
+
   -- the front that was saved, laid back over a list that was filled behind it
   pub over-filled : (z : A) (n m : ℕ) (d e s : List A) → n ≤ length d → n ≤ length e → drop m e ≡ drop m d → over n (over n d s) (filled z n m e) ≡ filled z n m d
   over-filled z n m d e s h k q =
@@ -85,6 +97,21 @@ module _ {A : Type 0} where
   -- one number after the other, from i on
   pub sets-put : (i : ℕ) (s xs : List A) → i + length s ≤ length xs → sets xs i s ≡ put-at i s xs
   sets-put i s xs h = sets-eq s xs i h ∙ append-assoc (take i xs) s (drop (i + length s) xs)
+
+  pub sets-append : (xs : List A) (i : ℕ) (s t : List A) → sets xs i (s ++ t) ≡ sets (sets xs i s) (i + length s) t
+  sets-append xs i [] t = ap (λ (k : ℕ). sets xs k t) (sym (add-zero i))
+  sets-append xs i (x ∷ s) t = sets-append (set xs i x) (suc i) s t ∙ ap (λ (k : ℕ). sets (sets (set xs i x) (suc i) s) k t) (suc-add i (length s) ∙ sym (add-suc i (length s)))
+
+  -- k numbers from the front on: what stands there, and behind it
+  module _ (xs s : List A) (k : ℕ) (e : length s ≡ k) (long : k ≤ length xs) where
+    sets-front : sets xs 0 s ≡ s ++ drop (0 + length s) xs
+    sets-front = sets-eq s xs 0 (omega arith)
+
+    pub front-written : take k (sets xs 0 s) ≡ s
+    front-written = ap (take k) sets-front ∙ take-at s (drop (0 + length s) xs) k e
+
+    pub rest-kept : drop k (sets xs 0 s) ≡ drop k xs
+    rest-kept = ap (drop k) sets-front ∙ drop-at s (drop (0 + length s) xs) k e ∙ ap (λ (j : ℕ). drop j xs) (zero-add (length s) ∙ e)
 
   -- a tail that was lent, and came back with s at its front
   pub put-lent : (a : ℕ) (s xs ys : List A) → ys ≡ put-at 0 s (take (length xs - a) (drop a xs)) → putMid a (length xs - a) xs ys ≡ put-at a s xs

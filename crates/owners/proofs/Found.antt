@@ -1,17 +1,16 @@
--- Whether there are owners, and what the scan past the checks comes to; and the work buffer, cleared before the walks and after them.
-use mathlib.Core.Path.{_≡_, refl, sym, ap, _∙_}
+-- Whether there are owners, and what the scan past the checks comes to.
+use mathlib.Core.Path.{_≡_, refl, sym}
 use mathlib.Core.Bool.{Bool, true, false, not}
-use mathlib.Core.List.{List, [], _∷_, _++_}
-use Prim.Native.Nat.{ℕ, _-_, _<_}
+use mathlib.Core.List.{List, [], _∷_}
+use Prim.Native.Nat.{ℕ, _<_}
 use mathlib.Core.Logic.{⊎-elim}
-use native.Mathlib.Omega.{arith}
 use native.Mathlib.Decide.{ℕ-discrete}
 use borrow.Author.Tests.{eq-eqb}
 use lib.Dec.{eqb}
 use lib.IntN.{ℤ, pos}
-use lib.ListN.{length, getD, drop, replicate, length-replicate, getD-replicate, List·getD-append}
-use lib.Seq.{drop-at}
+use lib.ListN.{length, getD}
 use Rattle.laws.proofs.Tests.{by-test, not-both, is-false, or-right}
+use Rattle.laws.proofs.Stretches.{filled-again}
 use Rattle.answers.specs.Answers.{whole, done, no-owners}
 use Rattle.owners.specs.declared.Eligible.{Eligible}
 use Rattle.owners.specs.Tests.{all-below, those-below, points-back, met-or-back, owns, has-owners, owners}
@@ -19,16 +18,6 @@ use Rattle.owners.specs.Scan.{outcome, cleared, listed, scan, InUse, Bac
 use Rattle.owners.specs.Marks.{Left, Scanned, Owned}
 use Rattle.owners.proofs.Below.{all-yes, all-true, all-stop, all-no, those-same}
 use Rattle.owners.proofs.Points.{back-yes}
-
-module _ (n : ℕ) (work : List ℕ) where
-  pub cleared-zero : (k : ℕ) → k < n → getD (cleared n work) k 0 ≡ 0
-  cleared-zero k l =
-      List·getD-append (replicate (n - 0) 0) (drop n work) 0 k (omega (arith, length-replicate {A = ℕ} (n - 0) 0)) ∙ getD-replicate (n - 0) k 0 0 (omega arith)
-
-  -- cleared again, having changed below n alone, it is as it was cleared first
-  pub cleared-again : (w w' : List ℕ) → drop n w ≡ drop n (cleared n work) → w' ≡ cleared n w → w' ≡ cleared n work
-  cleared-again w w' e q =
-      q ∙ ap (λ (t : List ℕ). replicate (n - 0) 0 ++ t) (e ∙ drop-at (replicate (n - 0) 0) (drop n work) n (omega (arith, length-replicate {A = ℕ} (n - 0) 0)))
 
 -- ---- whether there are owners, from what the walks and the last pass tell
 module _ (e : Eligible) (H : ℕ) (rows : List ℤ) (U : InUse H rows) {work work' : List ℕ} {r : Bool} (L : Left H rows work work' r) (S : Back H rows → Scanned e H rows work' r) where
@@ -73,4 +62,4 @@ module _ (e : Eligible) (H : ℕ) (rows : List ℤ) (work list : List ℕ) where
       → scan e H rows work list ≡ outcome (done (whole (pos (length (those-below (λ g. eqb (getD w g 0) 2) H))) ∷ [])) (cleared H w) (listed (those-below (λ g. eqb (getD w g 0) 2) H) list)
   unfolding scan owners
   all-found w s =
-      rw (← s .told, those-same (λ g. eqb (getD w g 0) 2) (owns e H rows) H (s .owners-are refl), cleared-again H work w (cleared H w) (s .beyond) refl)
+      rw (← s .told, those-same (λ g. eqb (getD w g 0) 2) (owns e H rows) H (s .owners-are refl), filled-again 0 H work w (cleared H w) (s .beyond) refl)

@@ -8,15 +8,15 @@ use native.Mathlib.Omega.{arith}
 use borrow.Author.Tests.{le-leb, lt-leb}
 use lib.Dec.{leb}
 use lib.IntN.{ℤ}
-use lib.ListN.{length, getD, drop}
+use lib.ListN.{length, getD}
 use Rattle.answers.specs.Answers.{Said, open-fan, no-room}
+use Rattle.laws.proofs.Stretches.{filled-reads}
 use Rattle.rows.specs.Triples.{zero-triples}
 use Rattle.net.specs.Counts.{vertex-capacity-over}
 use Rattle.splitting.specs.Needs.{SoundRows}
 use Rattle.splitting.specs.Steps.{Tallied, tallied, unclosed, count, State, state, split-rows}
 use Rattle.splitting.specs.Split.{Outcome, outcome, cleared, done-with, all-split, by-room, by-count, split-sound}
 use Rattle.splitting.proofs.Net.{round-of}
-use Rattle.splitting.proofs.Clear.{cleared-zero, cleared-beyond, cleared-same}
 use Rattle.splitting.proofs.Told.{by-pass}
 use Rattle.ordering.specs.Order.{order, order-rows, Written, written, write-order}
 use Rattle.ordering.specs.Needs.{OrderNeeds}
@@ -26,17 +26,9 @@ use Rattle.ordering.proofs.Along.{Along, along, visits-few}
 pub with-work : (said : Said) (h : List ℤ) (p w w′ v : List ℕ) (o : Outcome) → w ≡ w′ → outcome said h p w′ v ≡ o → outcome said h p w v ≡ o
 with-work said h p w w′ v o e f = ap (λ x. outcome said h p x v) e ∙ f
 
--- clearing twice
-pub cleared-twice : (n : ℕ) (work : List ℕ) → n ≤ length work → cleared n (cleared n work) ≡ cleared n work
-cleared-twice n work l = cleared-same n (cleared n work) work (cleared-beyond n work l)
-
--- cleared, written below n, and cleared again
-pub cleared-again : (n : ℕ) (work work₁ work₂ work₃ : List ℕ) → n ≤ length work → work₁ ≡ cleared n work → drop n work₂ ≡ drop n work₁ → work₃ ≡ cleared n work₂ → work₃ ≡ cleared n work
-cleared-again n work work₁ work₂ work₃ l e d f = f ∙ cleared-same n work₂ work (d ∙ ap (drop n) e ∙ cleared-beyond n work l)
-
 -- a cleared buffer reads zero
-pub reads-zero : (n : ℕ) (work : List ℕ) → n ≤ length work → cleared n work ≡ work → (k : ℕ) → k < n → getD work k 0 ≡ 0
-reads-zero n work l e k b = ap (λ w. getD w k 0) (sym e) ∙ cleared-zero n work l k b
+pub reads-zero : (n : ℕ) (work : List ℕ) → cleared n work ≡ work → (k : ℕ) → k < n → getD work k 0 ≡ 0
+reads-zero n work e k b = ap (λ w. getD w k 0) (sym e) ∙ filled-reads 0 n work k b
 
 module _ (H N : ℕ) (rows : List ℤ) (positions : List ℕ) where
   -- the outcome depends on what clearing leaves of the work buffer
@@ -91,7 +83,7 @@ module _ {H N : ℕ} {rows : List ℤ} (positions work visit : List ℕ) (S : So
 
   module _ (work′ : List ℕ) (copies steps : ℕ) (o : order work′ copies steps ≡ order-rows H N rows H (order work 0 0)) where
     pub goes : Along H N rows positions work visit H (order work′ copies steps) end
-    goes = subst (λ x. Along H N rows positions work visit H x end) (sym o) (along S long (reads-zero (H + N) work long clear) H (le-refl H))
+    goes = subst (λ x. Along H N rows positions work visit H x end) (sym o) (along S long (reads-zero (H + N) work clear) H (le-refl H))
 
     pub steps-fit : steps ≤ H
     steps-fit = omega (arith, goes .steps-same, goes .ok .steps-are, visits-few S long end (goes .ok))

@@ -6,5 +6,4 @@ pub mod Positions
 pub mod Split
 pub mod Count
 pub mod After
-pub mod Clear
 pub mod Told

@@ -3,13 +3,14 @@ use mathlib.Core.Path.{_≡_, refl, sym, ap, _∙_, subst}
 use mathlib.Core.Logic.{_⊎_, inl, inr, _≢_}
 use mathlib.Core.List.{List, [], _∷_, _++_}
 use Prim.Native.Nat.{ℕ, zero, suc, _+_, _≤_, _<_}
-use native.Mathlib.Nat.{zero-add, add-zero, suc-add, add-suc}
+use native.Mathlib.Nat.{zero-add}
 use native.Mathlib.Numerals.{add-one}
 use native.Mathlib.Omega.{arith}
 use native.Mathlib.Decide.{ℕ-discrete}
 use lib.IntN.{ℤ, pos, natAbs, pos-ne-negsuc}
 use lib.ListN.{length, getD, set, drop, length-set, length-append}
 use lib.Seq.{getD-set-same, getD-set-other, drop-set-lt, sets, length-sets}
+use Rattle.laws.proofs.Stretches.{sets-append}
 use Rattle.numbers.specs.Numbers.{Named, at, nothing, names}
 use Rattle.numbers.proofs.Names.{names-is, names-below, names-at, nothing-not-at}
 use Rattle.rows.specs.Halfedges.{startOf, lent-halfedges}
@@ -27,10 +28,6 @@ use Rattle.splitting.proofs.Inv.{Done, From, Wrote, Inv, init, flag-cle
 use Rattle.splitting.proofs.Net.{T, row-of, same, inV, same-turn}
 use Rattle.splitting.proofs.Rows.{length-flagged, flag-out, flag-in, flag-beyond, relabel-out, relabel-in, Kept, kept-refl, kept-walk}
 use Rattle.splitting.proofs.Positions.{Copied, copied-refl, copied-step, copied-reads}
-
-pub sets-append : {A : Type 0} (l : List A) (i : ℕ) (a b : List A) → sets l i (a ++ b) ≡ sets (sets l i a) (i + length a) b
-sets-append l i [] b = ap (λ k. sets l k b) (sym (add-zero i))
-sets-append l i (x ∷ a) b = sets-append (set l i x) (suc i) a b ∙ ap (λ k. sets (sets (set l i x) (suc i) a) k b) (suc-add i (length a) ∙ sym (add-suc i (length a)))
 
 -- ---- the flags and marks, of the counting pass and of the other alike
 abbrev pub flag-at : List ℕ → ℕ → ℕ

@@ -15,6 +15,7 @@ use lib.Seq.{length-take-le, length-sets}
 use Rattle.answers.specs.Answers.{Said, open-fan, no-room}
 use Rattle.answers.proofs.Laws.{numbers-differ}
 use Rattle.laws.proofs.Tests.{by-test, both2}
+use Rattle.laws.proofs.Stretches.{length-filled, filled-reads, front-written, rest-kept}
 use Rattle.numbers.specs.Numbers.{Named, at, nothing}
 use Rattle.rows.specs.Triples.{lent-triples}
 use Rattle.net.specs.declared.Counts.{Counts}
@@ -38,7 +39,6 @@ use Rattle.splitting.proofs.Net.{T, sound-rows}
 use Rattle.splitting.proofs.Split.{Ok, rows-ok, begin-ok, ok-split, ok-count}
 use Rattle.splitting.proofs.Count.{Counted, Good, count-good, counted-up}
 use Rattle.splitting.proofs.After.{sound-after}
-use Rattle.splitting.proofs.Clear.{length-cleared, cleared-zero, front-written, rest-kept}
 
 -- ---- the two passes over the rows of a sound net
 module _ {H N : ℕ} {rows : List ℤ} (positions work visit : List ℕ) (S : SoundRows H N rows) (long : H + N ≤ length work) where
@@ -46,10 +46,10 @@ module _ {H N : ℕ} {rows : List ℤ} (positions work visit : List ℕ) (S : So
   zeros = cleared (H + N) work
 
   long′ : H + N ≤ length zeros
-  long′ = rw (length-cleared (H + N) work long) long
+  long′ = rw (length-filled 0 0 (H + N) work (omega arith) long) long
 
   pub end-ok : Ok H N rows positions zeros visit H (all-split H N rows positions work visit)
-  end-ok = rows-ok S long′ H (omega arith) (state rows positions zeros visit 0 0) (begin-ok S long′ (cleared-zero (H + N) work long))
+  end-ok = rows-ok S long′ H (omega arith) (state rows positions zeros visit 0 0) (begin-ok S long′ (filled-reads 0 (H + N) work))
 
   -- the fans and the distinct starts are one number each
   pub fans-there : (F : ℕ) × Fans H rows F
@@ -66,7 +66,7 @@ module _ {H N : ℕ} {rows : List ℤ} (positions work visit : List ℕ) (S : So
       omega (arith, counted-up S long′ w added K (F .0) (D .0) (F .1) (D .1), ok-count S long′ (all-split H N rows positions work visit) end-ok (F .0) (D .0) (F .1) (D .1))
 
   pub counts : (t : Tallied) → count H N rows H zeros ≡ t → Good H N rows zeros H t
-  counts t e = subst (Good H N rows zeros H) e (count-good zeros S long′ (cleared-zero (H + N) work long) H (omega arith))
+  counts t e = subst (Good H N rows zeros H) e (count-good zeros S long′ (filled-reads 0 (H + N) work) H (omega arith))
 
   -- the copies of a sound net are counted, and no fan is left open
   pub by-pass : {P : Type 0} → ((added : ℕ) → all-split H N rows positions work visit .added ≡ added → split-sound H N rows positions work visit ≡ cond (leb added (vertex-capacity-over positions - N)) (written H N rows positions work visit) (none-free H N rows positions work visit) → P) → P
@@ -122,7 +122,7 @@ module _ (c : Counts) (n : Net) (work visit : List ℕ) (s : Sound c n) (work-lo
   }
     where
       W : IsSplit H N (n .halfedges) (n .positions) (end .halfedges) (end .positions) (K .visits) (end .added)
-      W = ok-split S (rw (length-cleared (H + N) work work-long) work-long) end K (room-lent room)
+      W = ok-split S (rw (length-filled 0 0 (H + N) work (omega arith) work-long) work-long) end K (room-lent room)
 
       live : Count (Live H (n .halfedges)) H (end .steps)
       live =
@@ -164,4 +164,4 @@ module _ (c : Counts) (n : Net) (work visit : List ℕ) (s : Sound c n) (work-lo
       (λ r e. (λ q. omega (arith, up), λ q. ap (λ (o : Outcome). o .said) e))
     where
       up : end .added + D ≡ F
-      up = ok-count S (rw (length-cleared (H + N) work work-long) work-long) end K F D a b
+      up = ok-count S (rw (length-filled 0 0 (H + N) work (omega arith) work-long) work-long) end K F D a b

@@ -2,7 +2,8 @@
 use mathlib.Core.Path.{sym, _∙_}
 use native.Mathlib.Omega.{arith}
 use borrow.Author.Tests.{not-true, not-false}
-use Rattle.owners.proofs.Found.{cleared-zero, cleared-again, none-found, all-found}
+use Rattle.laws.proofs.Stretches.{filled-reads, filled-again}
+use Rattle.owners.proofs.Found.{none-found, all-found}
 use borrow.Author.Needs.{needs}
 use Rattle.owners.proofs.find_owners.Statement.{statement}
 use Rattle.owners.proofs.find_owners.Tie as tie
@@ -13,7 +14,7 @@ zero-u8-requires c κs = search needs
 has-owners-requires : tie.Need-has-owners-requires
 has-owners-requires c κs =
     let a = c .before .before .before .before .before .before .before .args in
-    (c .before .before .before .before .before .before .before .pre .0, (omega (arith, c .before .before .before .zero-u8 .kept .0, c .before .before .before .before .before .before .before .pre .1 .0), λ g l. rw (c .before .before .before .zero-u8 .ensures) (cleared-zero (a .halfedges) (a .work .now) g l)))
+    (c .before .before .before .before .before .before .before .pre .0, (omega (arith, c .before .before .before .zero-u8 .kept .0, c .before .before .before .before .before .before .before .pre .1 .0), λ g l. rw (c .before .before .before .zero-u8 .ensures) (filled-reads 0 (a .halfedges) (a .work .now) g l)))
 
 zero-u8-requires-2 : tie.Need-zero-u8-requires-2
 zero-u8-requires-2 c κs = search needs
@@ -25,7 +26,7 @@ returns : tie.Need-returns
 returns c =
     let a = c .before .before .before .before .before .before .before .before .before .before .before .before .before .before .before .args in
     let s = rw (c .before .before .before .before .before .before .before .before .before .before .before .zero-u8 .ensures) at (c .before .before .before .before .before .before .before .has-owners .ensures) in
-    rw (cleared-again (a .halfedges) (a .work .now) _ _ (s .beyond) (c .before .before .zero-u82 .ensures))
+    rw (filled-again 0 (a .halfedges) (a .work .now) _ _ (s .beyond) (c .before .before .zero-u82 .ensures))
     (sym (none-found (a .eligible) (a .halfedges) (a .rows .now) (a .work .now) (a .list .now) (sym (s .told) ∙ not-true (c .before .before .before .before .before .before .before .has-owners .result) (c .before .before .before .before .if1 .taken))))
 
 list-owners-requires : tie.Need-list-owners-requires

@@ -11,7 +11,7 @@ use Rattle.split.proofs.split_cleared.Statement.{statement}
 use Rattle.split.proofs.split_cleared.Tie as tie
 
 order-rows-requires : tie.Need-order-rows-requires
-order-rows-requires c κs = (c .before .before .before .before .before .pre .0, (c .before .before .before .before .before .pre .1 .0, reads-zero _ _ (c .before .before .before .before .before .pre .1 .0) (c .before .before .before .before .before .pre .1 .1 .1 .1)))
+order-rows-requires c κs = (c .before .before .before .before .before .pre .0, (c .before .before .before .before .before .pre .1 .0, reads-zero _ _ (c .before .before .before .before .before .pre .1 .1 .1 .1)))
 
 enum-known-copies : tie.Need-enum-known-copies
 enum-known-copies c = search needs

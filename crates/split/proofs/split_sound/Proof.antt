@@ -1,9 +1,11 @@
 -- `split::split_sound` meets its contract: what clearing leaves before and after is the same.
-use mathlib.Core.Path.{sym, ap, _∙_}
+use mathlib.Core.Path.{refl, sym, ap, _∙_}
 use Prim.Native.Nat.{_+_}
+use native.Mathlib.Omega.{arith}
+use lib.ListN.{drop}
+use Rattle.laws.proofs.Stretches.{length-filled, filled-again}
 use Rattle.splitting.specs.Split.{cleared}
-use Rattle.splitting.proofs.Clear.{length-cleared}
-use Rattle.split.proofs.Stages.{with-work, cleared-twice, cleared-again, sound-same}
+use Rattle.split.proofs.Stages.{with-work, sound-same}
 use borrow.Author.Needs.{needs}
 use Rattle.split.proofs.split_sound.Statement.{statement}
 use Rattle.split.proofs.split_sound.Tie as tie
@@ -15,7 +17,12 @@ zero-u32-requires : tie.Need-zero-u32-requires
 zero-u32-requires c κs = search needs
 
 split-cleared-requires : tie.Need-split-cleared-requires
-split-cleared-requires c κs = (c .before .before .before .before .before .before .before .before .before .before .before .pre .0, (rw (c .before .before .before .before .before .before .zero-u32 .ensures, length-cleared ((c .before .before .before .before .before .before .before .before .before .before .before .args .halfedges) + (c .before .before .before .before .before .before .before .before .before .before .before .args .vertices)) (c .before .before .before .before .before .before .before .before .before .before .before .args .work .now) (c .before .before .before .before .before .before .before .before .before .before .before .pre .1 .0)) (c .before .before .before .before .before .before .before .before .before .before .before .pre .1 .0), (c .before .before .before .before .before .before .before .before .before .before .before .pre .1 .1 .0, (c .before .before .before .before .before .before .before .before .before .before .before .pre .1 .1 .1, ap (cleared ((c .before .before .before .before .before .before .before .before .before .before .before .args .halfedges) + (c .before .before .before .before .before .before .before .before .before .before .before .args .vertices))) (c .before .before .before .before .before .before .zero-u32 .ensures) ∙ cleared-twice ((c .before .before .before .before .before .before .before .before .before .before .before .args .halfedges) + (c .before .before .before .before .before .before .before .before .before .before .before .args .vertices)) (c .before .before .before .before .before .before .before .before .before .before .before .args .work .now) (c .before .before .before .before .before .before .before .before .before .before .before .pre .1 .0) ∙ sym (c .before .before .before .before .before .before .zero-u32 .ensures)))))
+split-cleared-requires c κs =
+    let a = c .before .before .before .before .before .before .before .before .before .before .before .args in
+    let p = c .before .before .before .before .before .before .before .before .before .before .before .pre in
+    let n = (a .halfedges) + (a .vertices) in
+    let e = c .before .before .before .before .before .before .zero-u32 .ensures in
+    (p .0, (rw (e, length-filled 0 0 n (a .work .now) (omega arith) (p .1 .0)) (p .1 .0), (p .1 .1 .0, (p .1 .1 .1, ap (cleared n) e ∙ filled-again 0 n (a .work .now) _ _ refl refl ∙ sym e))))
 
 add-zero-u32-2 : tie.Need-add-zero-u32-2
 add-zero-u32-2 c = search needs
@@ -36,7 +43,13 @@ same-length-4 : tie.Need-same-length-4
 same-length-4 c = search needs
 
 returns : tie.Need-returns
-returns c = with-work _ _ _ _ _ _ _ ((cleared-again ((c .before .before .before .before .before .before .before .before .before .before .before .before .before .before .before .before .before .before .before .before .before .before .before .args .halfedges) + (c .before .before .before .before .before .before .before .before .before .before .before .before .before .before .before .before .before .before .before .before .before .before .before .args .vertices)) (c .before .before .before .before .before .before .before .before .before .before .before .before .before .before .before .before .before .before .before .before .before .before .before .args .work .now) _ _ _ (c .before .before .before .before .before .before .before .before .before .before .before .before .before .before .before .before .before .before .before .before .before .before .before .pre .1 .0) (c .before .before .before .before .before .before .before .before .before .before .before .before .before .before .before .before .before .before .zero-u32 .ensures) (c .before .before .before .before .before .before .before .before .before .before .before .split-cleared .ensures .1) (c .before .before .zero-u322 .ensures)) ∙ sym (c .before .before .before .before .before .before .before .before .before .before .before .before .before .before .before .before .before .before .zero-u32 .ensures)) (c .before .before .before .before .before .before .before .before .before .before .before .split-cleared .ensures .0) ∙ sound-same (c .before .before .before .before .before .before .before .before .before .before .before .before .before .before .before .before .before .before .before .before .before .before .before .args .halfedges) (c .before .before .before .before .before .before .before .before .before .before .before .before .before .before .before .before .before .before .before .before .before .before .before .args .vertices) (c .before .before .before .before .before .before .before .before .before .before .before .before .before .before .before .before .before .before .before .before .before .before .before .args .rows .now) (c .before .before .before .before .before .before .before .before .before .before .before .before .before .before .before .before .before .before .before .before .before .before .before .args .positions .now) _ (c .before .before .before .before .before .before .before .before .before .before .before .before .before .before .before .before .before .before .before .before .before .before .before .args .work .now) (c .before .before .before .before .before .before .before .before .before .before .before .before .before .before .before .before .before .before .before .before .before .before .before .args .visit .now) (ap (cleared ((c .before .before .before .before .before .before .before .before .before .before .before .before .before .before .before .before .before .before .before .before .before .before .before .args .halfedges) + (c .before .before .before .before .before .before .before .before .before .before .before .before .before .before .before .before .before .before .before .before .before .before .before .args .vertices))) (c .before .before .before .before .before .before .before .before .before .before .before .before .before .before .before .before .before .before .zero-u32 .ensures) ∙ cleared-twice ((c .before .before .before .before .before .before .before .before .before .before .before .before .before .before .before .before .before .before .before .before .before .before .before .args .halfedges) + (c .before .before .before .before .before .before .before .before .before .before .before .before .before .before .before .before .before .before .before .before .before .before .before .args .vertices)) (c .before .before .before .before .before .before .before .before .before .before .before .before .before .before .before .before .before .before .before .before .before .before .before .args .work .now) (c .before .before .before .before .before .before .before .before .before .before .before .before .before .before .before .before .before .before .before .before .before .before .before .pre .1 .0))
+returns c =
+    let a = c .before .before .before .before .before .before .before .before .before .before .before .before .before .before .before .before .before .before .before .before .before .before .before .args in
+    let n = (a .halfedges) + (a .vertices) in
+    let e = c .before .before .before .before .before .before .before .before .before .before .before .before .before .before .before .before .before .before .zero-u32 .ensures in
+    let s = c .before .before .before .before .before .before .before .before .before .before .before .split-cleared .ensures in
+    with-work _ _ _ _ _ _ _ (filled-again 0 n (a .work .now) _ _ (s .1 ∙ ap (drop n) e) (c .before .before .zero-u322 .ensures) ∙ sym e) (s .0)
+    ∙ sound-same (a .halfedges) (a .vertices) (a .rows .now) (a .positions .now) _ (a .work .now) (a .visit .now) (ap (cleared n) e ∙ filled-again 0 n (a .work .now) _ _ refl refl)
 
 pub split-sound-spec : {M : Type 1} → statement M
 split-sound-spec =
