@@ -15,11 +15,11 @@ use Rattle.numbers.specs.Next.{next}
 use Rattle.rows.specs.Halfedges.{prop, startOf, endOf, pairOf, none, is-paired, lent-halfedges, rows-from}
 use Rattle.rows.specs.Triples.{lent-triples, put-triple}
 use Rattle.rows.proofs.Columns.{emptied-below, written-below, length-written}
-use Rattle.rows.proofs.Threes.{length-put}
+use Rattle.rows.proofs.Threes.{put-below, length-put}
 use Rattle.pairing.specs.Pairing.{paired}
 use Rattle.pairing.proofs.Told.{paired-up}
 use Rattle.steps.specs.Steps.{Middle, refused, Stopped, ended, with-positions}
-use Rattle.steps.proofs.Frame.{Frame, frame-same, frame-trans, frame-step, frame-cond, frame-named, frame-rows, frame-ended, frame-positions, put-below}
+use Rattle.steps.proofs.Frame.{Frame, frame-same, frame-trans, frame-step, frame-cond, frame-named, frame-rows, frame-ended, frame-positions}
 use Rattle.triangles.proofs.Parts.{second-in, third-in}
 use Rattle.triangles.proofs.Emptied.{length-empty}
 use Rattle.folds.specs.Folds.{nan, most, lose, lose-folded, has-pair, joined, join, cleared, clear, take-out, fold-at, fold}
@@ -41,7 +41,7 @@ module _ {H : ℕ} where
       in-use v n =
           let room : v < lent-triples (m .positions) = omega arith in
           let len = length-put v nan (m .positions) room in
-          (frame-positions m _ (put-below v (m .run .vertices) nan (m .positions) (omega arith) room) len, omega arith)
+          (frame-positions m _ (put-below v nan (m .positions) room (m .run .vertices) (omega arith)) len, omega arith)
 
       go : (w : Named) → Frame H m (named-or m w (λ v. cond (leb (m .run .vertices) v) (ended Stopped m) (with-positions (put-triple v nan (m .positions)) m)))
           × Fits (named-or m w (λ v. cond (leb (m .run .vertices) v) (ended Stopped m) (with-positions (put-triple v nan (m .positions)) m)))

@@ -6,8 +6,7 @@ use Prim.Native.Nat.{ℕ, _<_, _≤_}
 use native.Mathlib.Decide.{ℕ-discrete}
 use native.Mathlib.Omega.{arith}
 use Rattle.rows.specs.Triples.{lent-triples, triple, put-triple}
-use Rattle.rows.proofs.Threes.{triple-put, triple-other, length-put}
-use Rattle.steps.proofs.Frame.{put-below}
+use Rattle.rows.proofs.Threes.{triple-put, triple-other, put-below, length-put}
 use Rattle.folds.specs.Folds.{nan}
 use Rattle.foldsound.specs.Removed.{Lost}
 
@@ -17,7 +16,7 @@ lost-one N u l b lent =
     record {
       nan-there = λ v e. rw e (triple-put u nan l room);
       others = λ v n. triple-other u nan l room v n;
-      behind = put-below u N nan l b room;
+      behind = put-below u nan l room N b;
       same-length = length-put u nan l room;
     }
 
@@ -38,6 +37,6 @@ module _ (N : ℕ) (lost : ℕ → Type 0) (l later : List ℕ) (K : Lost lost N
   lost-more = record {
     nan-there = there;
     others = λ v n. triple-other u nan later room v (λ e. n (inr e)) ∙ K .others v (λ q. n (inl q));
-    behind = put-below u N nan later b room ∙ K .behind;
+    behind = put-below u nan later room N b ∙ K .behind;
     same-length = length-put u nan later room ∙ K .same-length;
   }

@@ -12,7 +12,7 @@ use lib.ListN.{length, getD, take, drop, List·getD-append}
 use lib.Seq.{getD-drop, getD-take, length-take-le}
 use Rattle.laws.specs.Stretches.{over, put-at}
 use Rattle.laws.proofs.Tests.{by-test}
-use Rattle.laws.proofs.Stretches.{put-before, put-in, put-behind, length-put-at, length-over, length-filled, over-filled}
+use Rattle.laws.proofs.Stretches.{put-before, put-in, put-behind, length-put-at, length-over, length-filled, drop-more, over-filled}
 use Rattle.rows.specs.declared.triples.Bits3.{Bits3}
 use Rattle.rows.specs.declared.triples.Reference.{Reference}
 use Rattle.rows.specs.Triples.{lent-triples, triple, put-triple, reference, put-reference, triples-from, over-triples, zero-triples}
@@ -50,6 +50,11 @@ module _ {A : Type 0} (v : ℕ) (a b c z : A) (l : List A) (room : v < lent-trip
           ∙ getD-drop (3 * v + 3) l (i - (3 * v + 3)) z
           ∙ ap (λ (j : ℕ). getD l j z) k
 
+-- rows of three that agree from n on agree from m on
+pub triples-more : (n m : ℕ) (s d : List ℕ) → n ≤ m → triples-from n s ≡ triples-from n d → triples-from m s ≡ triples-from m d
+unfolding triples-from
+triples-more n m s d h e = drop-more (3 * n) (3 * m) s d (omega arith) e
+
 -- positions and normals
 module _ (v : ℕ) (p : Bits3) (l : List ℕ) (room : v < lent-triples l) where
   pub triple-put : triple (put-triple v p l) v ≡ p
@@ -73,6 +78,10 @@ module _ (v : ℕ) (p : Bits3) (l : List ℕ) (room : v < lent-triples l) where
   triples-behind =
       let e : 3 * (v + 1) ≡ 3 * v + 3 = omega arith in
       rw e (put-behind (3 * v) (p .x ∷ p .y ∷ p .z ∷ []) l (omega arith))
+
+  -- put below row n, it leaves the rows from n on
+  pub put-below : (n : ℕ) → v < n → triples-from n (put-triple v p l) ≡ triples-from n l
+  put-below n b = triples-more (v + 1) n (put-triple v p l) l (omega arith) triples-behind
 
   pub length-put : length (put-triple v p l) ≡ length l
   unfolding put-triple

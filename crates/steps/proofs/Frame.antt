@@ -3,30 +3,20 @@
 use mathlib.Core.Path.{_≡_, refl, _∙_}
 use mathlib.Core.Bool.{Bool, true, false, cond}
 use mathlib.Core.List.{List}
-use Prim.Native.Nat.{ℕ, _+_, _*_, _<_, _≤_}
+use Prim.Native.Nat.{ℕ, _<_, _≤_}
 use native.Mathlib.Nat.{le-refl}
 use native.Mathlib.Omega.{arith}
 use lib.IntN.{ℤ}
 use lib.ListN.{length}
-use Rattle.laws.proofs.Stretches.{drop-more}
 use Rattle.numbers.specs.Numbers.{Named, at, nothing, names, named-or}
 use Rattle.numbers.proofs.Names.{names-below}
-use Rattle.rows.specs.declared.triples.Bits3.{Bits3}
 use Rattle.rows.specs.Halfedges.{lent-halfedges, rows-from, over-rows}
-use Rattle.rows.specs.Triples.{lent-triples, triples-from, put-triple, over-triples, zero-triples}
+use Rattle.rows.specs.Triples.{lent-triples, triples-from, over-triples, zero-triples}
 use Rattle.rows.proofs.Columns.{laid-back}
-use Rattle.rows.proofs.Threes.{triples-behind, laid-back-zeroed}
+use Rattle.rows.proofs.Threes.{triples-more, laid-back-zeroed}
 use Rattle.steps.specs.declared.How.{How}
 use Rattle.steps.specs.Steps.{Middle, middle, running, refused, begin, ended, with-rows, with-positions}
 use Rattle.steps.specs.Settle.{settled, settled-by}
-
--- positions that agree from row n on agree from row m on; a row put below n leaves those from n on
-pub triples-more : (n m : ℕ) (s d : List ℕ) → n ≤ m → triples-from n s ≡ triples-from n d → triples-from m s ≡ triples-from m d
-unfolding triples-from
-triples-more n m s d h e = drop-more (3 * n) (3 * m) s d (omega arith) e
-
-pub put-below : (v n : ℕ) (p : Bits3) (l : List ℕ) → v < n → v < lent-triples l → triples-from n (put-triple v p l) ≡ triples-from n l
-put-below v n p l b room = triples-more (v + 1) n (put-triple v p l) l (omega arith) (triples-behind v p l room)
 
 pub record Frame (H : ℕ) (a b : Middle) : Type 0 where
   pub rows-free : rows-from H (b .halfedges) ≡ rows-from H (a .halfedges)
