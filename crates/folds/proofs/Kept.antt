@@ -14,14 +14,13 @@ use Rattle.numbers.specs.Numbers.{Named, at, nothing, names, named-or}
 use Rattle.numbers.specs.Next.{next}
 use Rattle.rows.specs.Halfedges.{prop, startOf, endOf, pairOf, none, is-paired, lent-halfedges, rows-from}
 use Rattle.rows.specs.Triples.{lent-triples, put-triple}
-use Rattle.rows.proofs.Columns.{emptied-below, written-below, length-written}
+use Rattle.rows.proofs.Columns.{empty-below, length-empty, written-below, length-written}
 use Rattle.rows.proofs.Threes.{put-below, length-put}
 use Rattle.pairing.specs.Pairing.{paired}
 use Rattle.pairing.proofs.Told.{paired-up}
 use Rattle.steps.specs.Steps.{Middle, refused, Stopped, ended, with-positions}
 use Rattle.steps.proofs.Frame.{Frame, frame-same, frame-trans, frame-step, frame-cond, frame-named, frame-rows, frame-ended, frame-positions}
 use Rattle.triangles.proofs.Parts.{second-in, third-in}
-use Rattle.triangles.proofs.Emptied.{length-empty}
 use Rattle.folds.specs.Folds.{nan, most, lose, lose-folded, has-pair, joined, join, cleared, clear, take-out, fold-at, fold}
 
 -- the vertices in use are lent
@@ -74,7 +73,7 @@ module _ {H : ℕ} where
 
   pub cleared-free : (h : ℕ) (l : List ℤ) → h < H → rows-from H (cleared h l) ≡ rows-from H l
   unfolding cleared
-  cleared-free h l b = written-below prop h H none _ b ∙ emptied-below h H l b
+  cleared-free h l b = written-below prop h H none _ b ∙ empty-below h l H b
 
   frame-clear : (e e1 e2 : ℕ) (m : Middle) → e < H → e1 < H → e2 < H → Frame H m (clear e e1 e2 m)
   unfolding clear

@@ -9,12 +9,12 @@ use lib.IntN.{ℤ, pos}
 use lib.ListN.{length}
 use Rattle.numbers.specs.Next.{next}
 use Rattle.rows.specs.Halfedges.{Column, start, end, pair, prop, column, pairOf, none, lent-halfedges, rows-from, empty-row}
-use Rattle.rows.proofs.Columns.{column-written, other-column, other-row}
+use Rattle.rows.proofs.Columns.{column-written, other-column, other-row, empty-other, length-empty}
+use Rattle.net.proofs.Emptied.{empty-here}
 use Rattle.pairing.specs.Pairing.{paired}
 use Rattle.pairing.proofs.Told.{paired-up}
 use Rattle.triangles.specs.Triangles.{Outside}
 use Rattle.triangles.proofs.Parts.{second-in, third-in}
-use Rattle.triangles.proofs.Emptied.{length-empty, empty-other, empty-here}
 use Rattle.folds.specs.Folds.{joined, cleared, cleared3}
 use Rattle.folds.proofs.Kept.{length-cleared, cleared-free}
 use Rattle.foldsound.specs.Removed.{Outer, Gone, TakenOut}

@@ -9,7 +9,7 @@ use lib.ListN.{length, getD, set, take, drop, length-set, length-drop, List·get
 use lib.Seq.{getD-set-same, getD-set-other, getD-drop, drop-set-lt, getD-take, length-take-le}
 use Rattle.laws.proofs.Stretches.{put-before, put-in, put-behind, length-put-at, length-over, length-filled, drop-more, drop-over, over-back}
 use Rattle.rows.specs.declared.halfedges.Row.{Row}
-use Rattle.rows.specs.Halfedges.{Column, start, end, pair, prop, width, offset, column, set-column, empty-row, lent-halfedges, rows-from, append-row, over-rows, zero-rows}
+use Rattle.rows.specs.Halfedges.{Column, start, end, pair, prop, width, offset, column, none, set-column, empty-row, lent-halfedges, rows-from, append-row, over-rows, zero-rows}
 
 offset-in : (c : Column) → offset c < width
 offset-in start = omega arith
@@ -41,8 +41,33 @@ pub written-below : (d : Column) (h n : ℕ) (v : ℤ) (l : List ℤ) → h < n 
 unfolding rows-from set-column
 written-below d h n v l b = drop-set-lt (width * n) l (width * h + offset d) v (omega (arith, offset-in d))
 
-pub emptied-below : (h n : ℕ) (l : List ℤ) → h < n → rows-from n (empty-row h l) ≡ rows-from n l
-emptied-below h n l b = written-below pair h n _ _ b ∙ written-below end h n _ _ b ∙ written-below start h n _ _ b
+-- a row that was emptied names nothing; its property row, other rows and the rows from n on are as they were; no row comes or goes
+module _ (h : ℕ) (l : List ℤ) where
+  module _ (b : h < lent-halfedges l) where
+    abbrev once : List ℤ
+    once = set-column start h none l
+
+    pub empty-start : column start (empty-row h l) h ≡ none
+    empty-start = other-column start pair h h none _ (λ e. omega arith) ∙ other-column start end h h none _ (λ e. omega arith) ∙ column-written start h none l b
+
+    pub empty-end : column end (empty-row h l) h ≡ none
+    empty-end = other-column end pair h h none _ (λ e. omega arith) ∙ column-written end h none once (rw (length-written start h none l) b)
+
+    pub empty-pair : column pair (empty-row h l) h ≡ none
+    empty-pair = column-written pair h none (set-column end h none once) (rw (length-written end h none once, length-written start h none l) b)
+
+  pub empty-prop : (g : ℕ) → column prop (empty-row h l) g ≡ column prop l g
+  empty-prop g =
+      other-column prop pair h g none _ (λ e. omega arith) ∙ other-column prop end h g none _ (λ e. omega arith) ∙ other-column prop start h g none l (λ e. omega arith)
+
+  pub empty-other : (c : Column) (g : ℕ) → (g ≡ h → ⊥) → column c (empty-row h l) g ≡ column c l g
+  empty-other c g n = other-row c pair h g none _ n ∙ other-row c end h g none _ n ∙ other-row c start h g none l n
+
+  pub empty-below : (n : ℕ) → h < n → rows-from n (empty-row h l) ≡ rows-from n l
+  empty-below n b = written-below pair h n _ _ b ∙ written-below end h n _ _ b ∙ written-below start h n _ _ b
+
+  pub length-empty : length (empty-row h l) ≡ length l
+  length-empty = length-written pair h none _ ∙ length-written end h none _ ∙ length-written start h none l
 
 -- a part that starts at row n
 pub column-from : (c : Column) (n k : ℕ) (l : List ℤ) → column c (rows-from n l) k ≡ column c l (n + k)

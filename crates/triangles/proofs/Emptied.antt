@@ -1,17 +1,17 @@
--- What emptying a row, and the three rows of a triangle, leaves in every column of every row; the step of collapse_tri leaves the
--- free rows alone.
+-- What emptying the three rows of a triangle leaves in every column of every row; the step of collapse_tri leaves the free rows
+-- alone.
 use mathlib.Core.Path.{_≡_, refl, ap, _∙_}
 use mathlib.Core.List.{List}
 use Prim.Native.Nat.{ℕ, _%_, _<_, _≤_}
-use native.Mathlib.Decide.{ℕ-discrete}
 use native.Mathlib.Omega.{arith}
 use lib.IntN.{ℤ}
 use lib.ListN.{length}
 use Rattle.numbers.specs.Next.{next}
 use Rattle.laws.specs.Integers.{eqZ}
-use Rattle.rows.specs.Halfedges.{Column, start, end, pair, prop, column, pairOf, none, set-column, empty-row, lent-halfedges, rows-from}
-use Rattle.rows.proofs.Columns.{column-written, other-column, other-row, length-written, emptied-below}
+use Rattle.rows.specs.Halfedges.{Column, start, end, pair, prop, column, pairOf, none, empty-row, lent-halfedges, rows-from}
+use Rattle.rows.proofs.Columns.{empty-prop, empty-other, empty-below, length-empty}
 use Rattle.net.specs.Sound.{Empty}
+use Rattle.net.proofs.Emptied.{empty-here, empty-stays}
 use Rattle.pairing.specs.Pairing.{PairedUp, paired}
 use Rattle.pairing.proofs.Told.{paired-up}
 use Rattle.steps.specs.Steps.{Middle, Stopped}
@@ -19,42 +19,6 @@ use Rattle.steps.proofs.Frame.{Frame, frame-same, frame-step, frame-cond, frame
 use Rattle.triangles.specs.Triangles.{emptied, collapsed, collapse, Outside, Collapsed}
 use Rattle.triangles.proofs.Parts.{second-in, third-in}
 
--- one row
-module _ (h : ℕ) (l : List ℤ) where
-  pub length-empty : length (empty-row h l) ≡ length l
-  length-empty = length-written pair h none _ ∙ length-written end h none _ ∙ length-written start h none l
-
-  pub empty-other : (c : Column) (g : ℕ) → (g ≡ h → ⊥) → column c (empty-row h l) g ≡ column c l g
-  empty-other c g n = other-row c pair h g none _ n ∙ other-row c end h g none _ n ∙ other-row c start h g none l n
-
-  pub empty-prop : (g : ℕ) → column prop (empty-row h l) g ≡ column prop l g
-  empty-prop g =
-      other-column prop pair h g none _ (λ e. omega arith) ∙ other-column prop end h g none _ (λ e. omega arith) ∙ other-column prop start h g none l (λ e. omega arith)
-
-  pub empty-here : h < lent-halfedges l → Empty (empty-row h l) h
-  empty-here b =
-      let once = set-column start h none l in
-      let k = length-written start h none l in
-      let j = length-written end h none once in
-      record {
-        start-none = other-column start pair h h none _ (λ e. omega arith) ∙ other-column start end h h none _ (λ e. omega arith) ∙ column-written start h none l b;
-        end-none = other-column end pair h h none _ (λ e. omega arith) ∙ column-written end h none once (rw k b);
-        pair-none = column-written pair h none (set-column end h none once) (rw (j, k) b);
-      }
-
-  -- a row that is empty stays so
-  pub empty-stays : (g : ℕ) → h < lent-halfedges l → Empty l g → Empty (empty-row h l) g
-  empty-stays g b d = go (ℕ-discrete g h)
-    where
-      go : Dec (g ≡ h) → Empty (empty-row h l) g
-      go (yes e) = rw e (empty-here b)
-      go (no n) = record {
-        start-none = empty-other start g n ∙ d .start-none;
-        end-none = empty-other end g n ∙ d .end-none;
-        pair-none = empty-other pair g n ∙ d .pair-none;
-      }
-
--- a triangle
 module _ (e : ℕ) (l : List ℤ) where
   pub length-emptied : length (emptied e l) ≡ length l
   unfolding emptied
@@ -71,7 +35,7 @@ module _ (e : ℕ) (l : List ℤ) where
   module _ (H : ℕ) (b : e < H) (thirds : H % 3 ≡ 0) where
     pub emptied-free : rows-from H (emptied e l) ≡ rows-from H l
     unfolding emptied
-    emptied-free = emptied-below (next (next e)) H _ (third-in e H b thirds) ∙ emptied-below (next e) H _ (second-in e H b thirds) ∙ emptied-below e H l b
+    emptied-free = empty-below (next (next e)) _ H (third-in e H b thirds) ∙ empty-below (next e) _ H (second-in e H b thirds) ∙ empty-below e l H b
 
     module _ (lent : H ≤ lent-halfedges l) where
       abbrev once : List ℤ
@@ -91,11 +55,11 @@ module _ (e : ℕ) (l : List ℤ) where
 
       pub emptied-first : Empty (emptied e l) e
       unfolding emptied
-      emptied-first = empty-stays (next (next e)) twice e third-lent (empty-stays (next e) once e second-lent (empty-here e l first-lent))
+      emptied-first = empty-stays (next (next e)) twice third-lent e (empty-stays (next e) once second-lent e (empty-here e l first-lent))
 
       pub emptied-second : Empty (emptied e l) (next e)
       unfolding emptied
-      emptied-second = empty-stays (next (next e)) twice (next e) third-lent (empty-here (next e) once second-lent)
+      emptied-second = empty-stays (next (next e)) twice third-lent (next e) (empty-here (next e) once second-lent)
 
       pub emptied-third : Empty (emptied e l) (next (next e))
       unfolding emptied
