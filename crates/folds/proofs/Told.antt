@@ -16,10 +16,11 @@ use Rattle.rows.specs.Halfedges.{is-paired}
 use Rattle.net.specs.declared.Counts.{Counts}
 use Rattle.net.specs.Net.{Net}
 use Rattle.net.specs.Sound.{Live, Sound}
+use Rattle.net.proofs.Sound.{live-paired}
 use Rattle.soundness.specs.Check.{checkNet}
 use Rattle.soundness.proofs.Told.{check-sound}
 use Rattle.steps.specs.Steps.{begin}
-use Rattle.steps.proofs.Entries.{live-paired, same-row}
+use Rattle.steps.proofs.Entries.{same-row}
 use Rattle.folds.specs.declared.RemoveIfFolded.{RemoveIfFolded}
 use Rattle.folds.specs.declared.RemoveIfFolded.the-variants as R
 use Rattle.folds.specs.Folds.{fold}

@@ -17,9 +17,8 @@ use Rattle.rows.specs.Halfedges.{pair, startOf, endOf, pairOf, none, lent-halfe
 use Rattle.rows.specs.Triples.{lent-triples, put-triple}
 use Rattle.net.specs.Counts.{most-vertices}
 use Rattle.net.specs.Sound.{start-vertex, partner, LiveRow, InOrder, Live}
-use Rattle.net.proofs.Sound.{live-row, next-live, partner-live, pair-involution}
+use Rattle.net.proofs.Sound.{live-paired, live-row, next-live, partner-live, pair-involution}
 use Rattle.steps.specs.Steps.{Middle, running, Going, begin}
-use Rattle.steps.proofs.Entries.{live-paired}
 use Rattle.folds.specs.Folds.{nan, most, lose, lose-folded, has-pair, joined, join, clear, take-out, fold-at, fold}
 use Rattle.foldsound.specs.Removed.{SameOpposite, Former, Latter, Outer, TakenOut, Removed, both, only-former, only-latter, not-folded}
 use Rattle.foldsound.proofs.Cleared.{six, six-other, JoinedUp, joined-up, taken-out}

@@ -2,19 +2,23 @@
 -- are live; taking the partner twice comes back; turning keeps the start, and one and no other turns to each. The rest are dead.
 -- All of this depends on no more than start, end and pair of the rows in use.
 use mathlib.Core.Path.{_≡_, refl, sym, ap, _∙_}
+use mathlib.Core.Bool.{true}
 use mathlib.Core.List.{List}
 use mathlib.Core.Logic.{_⊎_, inl, inr}
 use Prim.Native.Nat.{ℕ, _%_, _<_}
 use native.Mathlib.Decide.{decLt}
+use native.Mathlib.Omega.{arith}
+use borrow.Author.Tests.{le-leb}
 use lib.IntN.{ℤ, pos, negsuc, natAbs, pos-ne-negsuc}
+use Rattle.laws.proofs.Integers.{from-zero}
 use Rattle.numbers.specs.Next.{next}
 use Rattle.numbers.proofs.NextLaws.{next-in, next-inj, next-round}
-use Rattle.rows.specs.Halfedges.{startOf, endOf, pairOf}
+use Rattle.rows.specs.Halfedges.{startOf, endOf, pairOf, is-paired}
 use Rattle.net.specs.Sound.{partner, Paired, turn, Empty, DeadRow, LiveRow, InOrder, Live}
 
 -- a pair of 0 or more, of what the pair is
-is-paired : (z : ℤ) (p : ℕ) → z ≡ pos p → z ≡ pos (natAbs z)
-is-paired z p e = rw e
+paired-by : (z : ℤ) (p : ℕ) → z ≡ pos p → z ≡ pos (natAbs z)
+paired-by z p e = rw e
 
 -- whether a half-edge is live, of any rows
 module _ (H : ℕ) (rows : List ℤ) where
@@ -29,6 +33,13 @@ module _ (H : ℕ) (rows : List ℤ) where
 
   pub live-dec : (h : ℕ) → Dec (Live H rows h)
   live-dec h = live-by h (decLt h H) (paired-dec (pairOf rows h))
+
+  -- live is what passes the test that refuses dead half-edges
+  pub live-paired : {h : ℕ} → Live H rows h → is-paired rows h ≡ true
+  live-paired {h} l = rw (l .paired) (le-leb 0 (partner rows h) (omega arith))
+
+  pub paired-live : (h : ℕ) → h < H → is-paired rows h ≡ true → Live H rows h
+  paired-live h l e = record { in-use = l; paired = rw (from-zero (pairOf rows h) e) }
 
   pub empty-not-live : {h : ℕ} → Empty rows h → Live H rows h → ⊥
   empty-not-live d l = pos-ne-negsuc _ _ (sym (l .paired) ∙ d .pair-none)
@@ -51,7 +62,7 @@ module _ (H N : ℕ) (rows : List ℤ) (thirds : H % 3 ≡ 0) (in-order : (h : �
   pub partner-live : {h : ℕ} → Live H rows h → Live H rows (partner rows h)
   partner-live {h} l =
       let r = live-row l in
-      record { in-use = r .pair-in; paired = is-paired (pairOf rows (partner rows h)) h (r .pair-back) }
+      record { in-use = r .pair-in; paired = paired-by (pairOf rows (partner rows h)) h (r .pair-back) }
 
   pub pair-involution : {h : ℕ} → Live H rows h → partner rows (partner rows h) ≡ h
   pair-involution l = ap natAbs (live-row l .pair-back)

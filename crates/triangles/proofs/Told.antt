@@ -20,11 +20,11 @@ use Rattle.net.specs.declared.Counts.{Counts}
 use Rattle.net.specs.Net.{Net}
 use Rattle.net.specs.Sound.{partner, InOrder, Live, Sound}
 use Rattle.net.proofs.Shape.{within}
-use Rattle.net.proofs.Sound.{live-row, next-live}
+use Rattle.net.proofs.Sound.{live-paired, live-row, next-live}
 use Rattle.soundness.specs.Check.{checkNet}
 use Rattle.soundness.proofs.Told.{check-sound}
 use Rattle.steps.specs.Steps.{Middle, refused, with-rows, begin}
-use Rattle.steps.proofs.Entries.{live-paired, same-row}
+use Rattle.steps.proofs.Entries.{same-row}
 use Rattle.triangles.specs.declared.CollapseTri.{CollapseTri}
 use Rattle.triangles.specs.declared.CollapseTri.the-variants as C
 use Rattle.triangles.specs.Triangles.{collapsed, collapse, Collapsed}

@@ -27,13 +27,13 @@ use Rattle.net.specs.declared.Counts.{Counts}
 use Rattle.net.specs.Net.{Net}
 use Rattle.net.specs.Sound.{partner, Paired, InOrder, Live, Sound}
 use Rattle.net.proofs.Shape.{within}
-use Rattle.net.proofs.Sound.{live-dec, live-row, next-live, partner-live, partner-inj}
+use Rattle.net.proofs.Sound.{live-dec, live-paired, live-row, next-live, partner-live, partner-inj}
 use Rattle.soundness.specs.Check.{checkNet}
 use Rattle.soundness.proofs.Told.{check-sound}
 use Rattle.turning.specs.Fan.{iter, Reach, Turning}
 use Rattle.turning.proofs.Orbit.{iter-suc, period, soon}
 use Rattle.steps.specs.Entries.{past}
-use Rattle.steps.proofs.Entries.{live-paired, same-row}
+use Rattle.steps.proofs.Entries.{same-row}
 use Rattle.walks.specs.declared.UpdateVert.{UpdateVert}
 use Rattle.walks.specs.declared.UpdateVert.the-variants as U
 use Rattle.walks.specs.Walk.{onward, moved, reaches, walked, walk}
