@@ -4,18 +4,16 @@ use mathlib.Core.Path.{_≡_, refl}
 use mathlib.Core.List.{List, []}
 use Prim.Native.Nat.{ℕ}
 use lib.IntN.{ℤ, pos}
-use lib.ListN.{length}
 use Rattle.answers.specs.Answers.{done}
-use Rattle.laws.proofs.Integers.{from-zero}
 use Rattle.laws.proofs.Tests.{by-test}
 use Rattle.numbers.specs.Numbers.{Named, at, nothing, names}
 use Rattle.numbers.proofs.Names.{names-below}
-use Rattle.rows.specs.Halfedges.{pairOf, is-paired}
+use Rattle.rows.specs.Halfedges.{is-paired}
 use Rattle.net.specs.declared.Counts.{Counts}
 use Rattle.net.specs.Net.{Net, net}
-use Rattle.net.specs.Counts.{Shaped, triangle-capacity-over, vertex-capacity-over, property-capacity-over}
 use Rattle.net.specs.Sound.{partner, Live, Sound}
-use Rattle.net.proofs.Shape.{within}
+use Rattle.net.proofs.Shape.{within, shaped-with}
+use Rattle.net.proofs.Sound.{paired-live}
 use Rattle.soundness.proofs.Told.{check-sound}
 use Rattle.steps.specs.Steps.{Middle, begin}
 use Rattle.folds.specs.Folds.{fold}
@@ -39,19 +37,6 @@ module _ (c : Counts) (n : Net) where
   abbrev with-arrays : List ℤ × List ℕ → Net
   with-arrays l = net (l .0) (l .1) (n .normals) (n .references) (n .properties)
 
-  -- a shape depends on no more than how many numbers are lent
-  shaped-with : (l : List ℤ × List ℕ) → length (l .0) ≡ length rows → length (l .1) ≡ length (n .positions) → Shaped c n → Shaped c (with-arrays l)
-  unfolding triangle-capacity-over vertex-capacity-over property-capacity-over
-  shaped-with l p q s = record {
-    thirds = s .thirds;
-    halfedges-fit = rw p (s .halfedges-fit);
-    vertices-fit = rw q (s .vertices-fit);
-    num-prop-fits = s .num-prop-fits;
-    properties-fit = s .properties-fit;
-    references-fit = s .references-fit;
-    normals-fit = s .normals-fit;
-  }
-
   module _ (sound : Sound c n) where
     abbrev after : ℕ → Middle
     after e = fold H e (begin rows (n .positions) N)
@@ -66,7 +51,7 @@ module _ (c : Counts) (n : Net) where
         let w = within c n (sound .shaped) in
         let f = frame-fold H e (begin rows (n .positions) N) (l .in-use) (w .halfedges-thirds) (w .halfedges-lent) (w .vertices-lent) in
         record {
-          shaped = shaped-with (after e .halfedges, after e .positions) (f .rows-lent) (f .positions-lent) (sound .shaped);
+          shaped = shaped-with c n (sound .shaped) N (after e .halfedges) (after e .positions) (f .rows-lent) (f .positions-lent) (sound .shaped .vertices-fit);
           in-order = fold-in-order H N rows (w .halfedges-thirds) (w .halfedges-lent) (w .vertices-most) (sound .in-order) e l (n .positions) (w .vertices-lent);
         }
 
@@ -84,5 +69,5 @@ module _ (c : Counts) (n : Net) where
           go nothing t = sound
           go (at e) t =
               by-test (is-paired rows e)
-              (λ u. rw u (step-sound e (record { in-use = names-below halfedge H t; paired = rw (from-zero (pairOf rows e) u) })))
+              (λ u. rw u (step-sound e (paired-live H rows e (names-below halfedge H t) u)))
               (λ u. rw u sound)

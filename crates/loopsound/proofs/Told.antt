@@ -1,25 +1,25 @@
 -- What form_loop does in words: whenever it is done a sound net stays sound; where it says 1 to 5 nothing is changed. (Where it says 6
 -- or 7 the rows in use are as they were: loops/proofs/Told.antt, `form-refused`.)
 use mathlib.Core.Path.{_≡_, refl, sym, _∙_}
-use mathlib.Core.Bool.{true, false, true≢false, _&&_}
+use mathlib.Core.Bool.{false, true≢false, _&&_}
 use mathlib.Core.List.{List, [], _∷_}
-use Prim.Native.Nat.{ℕ, _+_, _<_, _≤_}
+use Prim.Native.Nat.{ℕ, _+_, _<_}
 use native.Mathlib.Omega.{arith}
 use lib.Dec.{eqb}
 use lib.IntN.{ℤ, pos}
-use lib.ListN.{length}
 use Rattle.answers.specs.Answers.{whole, done}
 use Rattle.answers.proofs.Laws.{numbers-differ, values-agree}
-use Rattle.laws.proofs.Integers.{from-zero, pos-inj}
+use Rattle.laws.proofs.Integers.{pos-inj}
 use Rattle.laws.proofs.Tests.{by-test, and2}
 use Rattle.numbers.specs.Numbers.{Named, at, nothing, names}
 use Rattle.numbers.proofs.Names.{names-below}
-use Rattle.rows.specs.Halfedges.{pairOf, is-paired}
+use Rattle.rows.specs.Halfedges.{is-paired}
 use Rattle.net.specs.declared.Counts.{Counts}
 use Rattle.net.specs.Net.{Net, net}
-use Rattle.net.specs.Counts.{is-shaped, spare-holds, Shaped, triangle-capacity-over, vertex-capacity-over, property-capacity-over}
+use Rattle.net.specs.Counts.{is-shaped, spare-holds, vertex-capacity-over}
 use Rattle.net.specs.Sound.{Live, Sound}
-use Rattle.net.proofs.Shape.{shaped-true, capacities, within}
+use Rattle.net.proofs.Shape.{capacities, within, shaped-true, shaped-with}
+use Rattle.net.proofs.Sound.{paired-live}
 use Rattle.soundness.specs.Check.{sound-or, checkNet}
 use Rattle.soundness.specs.Order.{least-out}
 use Rattle.soundness.proofs.Told.{check-sound}
@@ -55,18 +55,6 @@ module _ (c : Counts) (n : Net) (sound : Sound c n) (saved : List ℤ) (held : L
   abbrev Good : Left → Type 0
   Good o = o .said ≡ done (whole (pos k) ∷ []) → Sound (with-vertices c k) (net (o .halfedges) (o .positions) (n .normals) (n .references) (n .properties))
 
-  shaped-with : (h : List ℤ) (p : List ℕ) → length h ≡ length rows → length p ≡ length (n .positions) → k ≤ capacity → Shaped (with-vertices c k) (net h p (n .normals) (n .references) (n .properties))
-  unfolding triangle-capacity-over vertex-capacity-over property-capacity-over
-  shaped-with h p eh ep room = record {
-    thirds = sound .shaped .thirds;
-    halfedges-fit = rw eh (sound .shaped .halfedges-fit);
-    vertices-fit = rw ep room;
-    num-prop-fits = sound .shaped .num-prop-fits;
-    properties-fit = sound .shaped .properties-fit;
-    references-fit = sound .shaped .references-fit;
-    normals-fit = sound .shaped .normals-fit;
-  }
-
   module _ (a b : ℕ) (la : Live H rows a) (lb : Live H rows b) where
     abbrev out : Middle
     out = loop-at H capacity a b (begin rows (n .positions) N)
@@ -79,7 +67,7 @@ module _ (c : Counts) (n : Net) (sound : Sound c n) (saved : List ℤ) (held : L
         let v = loop-left H N capacity rows (n .positions) (w .halfedges-thirds) (w .halfedges-lent) (sound .in-order) (z .vertices-lent) (z .vertices-most) (sound .shaped .vertices-fit) a b la lb t in
         let is-k : k ≡ N + 2 = sym u ∙ v .0 in
         record {
-          shaped = shaped-with (out .halfedges) (out .positions) (f .rows-lent) (f .positions-lent) (rw is-k (v .1));
+          shaped = shaped-with c n (sound .shaped) k (out .halfedges) (out .positions) (f .rows-lent) (f .positions-lent) (rw is-k (v .1));
           in-order = rw is-k (loop-in-order H N capacity rows (n .positions) (w .halfedges-thirds) (w .halfedges-lent) (sound .in-order) (z .vertices-lent) (z .vertices-most) (sound .shaped .vertices-fit) a b la lb t);
         }
 
@@ -100,15 +88,12 @@ module _ (c : Counts) (n : Net) (sound : Sound c n) (saved : List ℤ) (held : L
       rw (shaped-true c n (sound .shaped), checked)
       (by-test (spare-holds c saved held) (λ t. rw t (go (names first H) refl (names second H) refl)) (λ t. rw t (λ e. numbers-differ e (λ z. omega arith))))
     where
-      live : (z : ℤ) (h : ℕ) → names z H ≡ at h → is-paired rows h ≡ true → Live H rows h
-      live z h t u = record { in-use = names-below z H t; paired = rw (from-zero (pairOf rows h) u) }
-
       go : (v : Named) → names first H ≡ v → (w : Named) → names second H ≡ w → Good (formNamed H N rows (n .positions) saved held v w)
       go nothing s w t = λ e. numbers-differ e (λ z. omega arith)
       go (at a) s nothing t = λ e. numbers-differ e (λ z. omega arith)
       go (at a) s (at b) t =
           by-test (is-paired rows a && is-paired rows b)
-          (λ u. let p = and2 (is-paired rows a) (is-paired rows b) u in rw u (at-two a b (live first a s (p .0)) (live second b t (p .1))))
+          (λ u. let p = and2 (is-paired rows a) (is-paired rows b) u in rw u (at-two a b (paired-live H rows a (names-below first H s) (p .0)) (paired-live H rows b (names-below second H t) (p .1))))
           (λ u. rw u (λ e. numbers-differ e (λ z. omega arith)))
 
 -- steps that are done, have no room or are stopped say 0, 6 or 7

@@ -1,5 +1,6 @@
 -- The test of a shape tells whether nothing calls for answer 1. What follows: the capacities are within the lent arrays and the
--- bounds, and with nothing that calls for answer 1 so are the counts in use.
+-- bounds, and with nothing that calls for answer 1 so are the counts in use. A shape depends on no more than how many numbers are
+-- lent.
 use mathlib.Core.Path.{_≡_, sym, _∙_}
 use mathlib.Core.Bool.{true, false, true≢false}
 use mathlib.Core.List.{List}
@@ -16,7 +17,7 @@ use Rattle.numbers.specs.Next.{most-halfedges}
 use Rattle.rows.specs.Halfedges.{lent-halfedges}
 use Rattle.rows.specs.Triples.{lent-triples}
 use Rattle.net.specs.declared.Counts.{Counts}
-use Rattle.net.specs.Net.{Net}
+use Rattle.net.specs.Net.{Net, net}
 use Rattle.net.specs.Counts.{most-triangles, most-vertices, most-num-prop, most-properties, triangles, triangle-capacity-over, vertex-capacity-over, property-capacity-over, lent-properties, triangle-capacity, halfedge-capacity, vertex-capacity, property-capacity, Shaped, none-or-all, is-shaped}
 
 -- the triangle capacity over each array
@@ -44,6 +45,19 @@ numbers-lent num-prop k properties l =
     (λ e. rw (eqb-true num-prop 0 e) (omega arith))
     (λ e. le-trans (mul-le-mul-left num-prop (rw e at l)) (mul-div-le (length properties) num-prop))
 
+-- the vertex capacity over the positions
+pub capacity-lent : (positions : List ℕ) → vertex-capacity-over positions ≤ lent-triples positions
+unfolding vertex-capacity-over
+capacity-lent positions = omega arith
+
+pub capacity-most : (positions : List ℕ) → vertex-capacity-over positions ≤ most-vertices
+unfolding vertex-capacity-over
+capacity-most positions = omega arith
+
+pub capacity-same : (p q : List ℕ) → length p ≡ length q → vertex-capacity-over p ≡ vertex-capacity-over q
+unfolding vertex-capacity-over
+capacity-same p q e = rw e
+
 pub record Capacities (c : Counts) (n : Net) : Type 0 where
   pub halfedges-lent : halfedge-capacity c n ≤ lent-halfedges (n .halfedges)
   pub halfedges-most : halfedge-capacity c n ≤ most-halfedges
@@ -55,7 +69,7 @@ pub record Capacities (c : Counts) (n : Net) : Type 0 where
   pub properties-most : property-capacity c n ≤ most-properties
 
 pub capacities : (c : Counts) (n : Net) → Capacities c n
-unfolding vertex-capacity-over property-capacity-over
+unfolding property-capacity-over
 capacities c n =
     let most = triangles-most c (n .halfedges) (n .normals) (n .references) in
     record {
@@ -63,8 +77,8 @@ capacities c n =
       halfedges-most = omega arith;
       references-lent = triangles-by-references c (n .halfedges) (n .normals) (n .references);
       normals-lent = triangles-by-normals c (n .halfedges) (n .normals) (n .references);
-      vertices-lent = omega arith;
-      vertices-most = omega arith;
+      vertices-lent = capacity-lent (n .positions);
+      vertices-most = capacity-most (n .positions);
       properties-lent = numbers-lent (c .«num_prop») (property-capacity c n) (n .properties) (min-le-left _ _);
       properties-most = omega arith;
     }
@@ -143,3 +157,18 @@ module _ (c : Counts) (n : Net) where
 
   pub shaped-no : is-shaped c n ≡ false → Shaped c n → ⊥
   shaped-no e s = true≢false (sym (shaped-true s) ∙ e)
+
+  -- other half-edge rows and positions, as many as there were, with k vertices in use
+  pub shaped-with : Shaped c n → (k : ℕ) (h : List ℤ) (p : List ℕ) → length h ≡ length (n .halfedges) → length p ≡ length (n .positions) → k ≤ vertex-capacity n →
+      Shaped (record { halfedges = c .halfedges; vertices = k; normals = c .normals; references = c .references; properties = c .properties; «num_prop» = c .«num_prop» })
+      (net h p (n .normals) (n .references) (n .properties))
+  unfolding triangle-capacity-over vertex-capacity-over property-capacity-over
+  shaped-with s k h p eh ep room = record {
+    thirds = s .thirds;
+    halfedges-fit = rw eh (s .halfedges-fit);
+    vertices-fit = rw ep room;
+    num-prop-fits = s .num-prop-fits;
+    properties-fit = s .properties-fit;
+    references-fit = s .references-fit;
+    normals-fit = s .normals-fit;
+  }

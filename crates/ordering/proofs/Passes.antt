@@ -14,10 +14,11 @@ use Rattle.laws.proofs.Tests.{by-test}
 use Rattle.numbers.specs.Numbers.{Named, at, nothing, names}
 use Rattle.numbers.proofs.Names.{names-is}
 use Rattle.rows.specs.Halfedges.{startOf, pairOf}
-use Rattle.rows.specs.Triples.{triple, lent-triples}
+use Rattle.rows.specs.Triples.{triple}
 use Rattle.rows.proofs.Threes.{length-put}
 use Rattle.net.specs.Counts.{vertex-capacity-over}
 use Rattle.net.specs.Sound.{turn}
+use Rattle.net.proofs.Shape.{capacity-lent, capacity-same}
 use Rattle.turning.specs.Walk.{walk}
 use Rattle.turning.proofs.Walk.{walk-home}
 use Rattle.splitting.specs.Needs.{SoundRows}
@@ -29,14 +30,6 @@ use Rattle.splitting.proofs.Split.{live-here}
 use Rattle.ordering.specs.Order.{copy-bit, is-walked, entry, order, order-row, order-rows, Written, written, copy-named, copy-at, listed, write-entry, write-order}
 use Rattle.ordering.specs.Needs.{FanOrder, RowOrder, EntryNeeds, OrderNeeds}
 use Rattle.ordering.proofs.Along.{Along, along, start-kept, unwalked, fits}
-
-pub capacity-lent : (positions : List ℕ) → vertex-capacity-over positions ≤ lent-triples positions
-unfolding vertex-capacity-over
-capacity-lent positions = omega arith
-
-pub capacity-same : (p q : List ℕ) → length p ≡ length q → vertex-capacity-over p ≡ vertex-capacity-over q
-unfolding vertex-capacity-over
-capacity-same p q e = rw e
 
 -- ---- the first pass, before half-edge i
 pub record Ordered (H N : ℕ) (rows : List ℤ) (work₀ work : List ℕ) (i added steps : ℕ) : Type 0 where

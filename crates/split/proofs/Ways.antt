@@ -2,13 +2,12 @@
 use mathlib.Core.Path.{_≡_, refl, sym, ap, _∙_, subst}
 use mathlib.Core.Bool.{Bool, true, false, cond}
 use mathlib.Core.List.{List}
-use Prim.Native.Nat.{ℕ, _+_, _≤_}
+use Prim.Native.Nat.{ℕ, _+_}
 use native.Mathlib.Omega.{arith}
 use lib.IntN.{ℤ}
 use lib.ListN.{length, set}
 use Rattle.numbers.specs.Numbers.{at, nothing, names}
 use Rattle.rows.specs.Halfedges.{startOf}
-use Rattle.net.specs.Counts.{vertex-capacity-over, most-vertices}
 use Rattle.net.specs.Sound.{turn}
 use Rattle.turning.specs.Walk.{walk}
 use Rattle.fanwalks.specs.declared.Behind.the-variants as B
@@ -18,10 +17,6 @@ use Rattle.ordering.proofs.Steps.{order-walked, order-unwalked}
 use Rattle.split.specs.declared.Ordered.{Ordered}
 use Rattle.split.specs.declared.Ordered.the-variants as O
 use Rattle.split.specs.Answer.{Gives}
-
-pub capacity-few : (positions : List ℕ) → vertex-capacity-over positions ≤ most-vertices
-unfolding vertex-capacity-over
-capacity-few positions = omega arith
 
 -- ---- a fan closes
 pub behind-is : {m n : ℕ} → B.At m ≡ B.At n → m ≡ n

@@ -9,8 +9,9 @@ use Rattle.numbers.specs.Next.{next}
 use Rattle.rows.specs.Halfedges.{startOf, endOf, pairOf}
 use Rattle.net.specs.declared.Counts.{Counts}
 use Rattle.net.specs.Net.{Net, net}
-use Rattle.net.specs.Counts.{Shaped, vertex-capacity, triangle-capacity-over, vertex-capacity-over, property-capacity-over}
+use Rattle.net.specs.Counts.{vertex-capacity}
 use Rattle.net.specs.Sound.{start-vertex, partner, turn, Live, LiveRow, Empty, DeadRow, InOrder, Sound}
+use Rattle.net.proofs.Shape.{shaped-with}
 use Rattle.net.proofs.Sound.{empty-not-live, live-row-live, partner-live, next-live, pair-involution}
 use Rattle.turning.specs.Fan.{Reach}
 use Rattle.turning.proofs.Orbit.{reach-sym}
@@ -81,20 +82,8 @@ module _ {H N : ℕ} {rows : List ℤ} {positions : List ℕ} {rows' : List ℤ}
 
 module _ (c : Counts) (n : Net) {rows' : List ℤ} {positions' visits : List ℕ} {added : ℕ} (s : Sound c n)
     (W : IsSplit (c .halfedges) (c .vertices) (n .halfedges) (n .positions) rows' positions' visits added) where
-  abbrev after : Net
-  after = net rows' positions' (n .normals) (n .references) (n .properties)
-
-  shaped-after : c .vertices + added ≤ vertex-capacity n → Shaped (with-vertices c (c .vertices + added)) after
-  unfolding triangle-capacity-over vertex-capacity-over property-capacity-over
-  shaped-after room = record {
-    thirds = s .shaped .thirds;
-    halfedges-fit = rw (W .rows-lent) (s .shaped .halfedges-fit);
-    vertices-fit = rw (W .positions-lent) room;
-    num-prop-fits = s .shaped .num-prop-fits;
-    properties-fit = s .shaped .properties-fit;
-    references-fit = s .shaped .references-fit;
-    normals-fit = s .shaped .normals-fit;
+  pub sound-after : c .vertices + added ≤ vertex-capacity n → Sound (with-vertices c (c .vertices + added)) (net rows' positions' (n .normals) (n .references) (n .properties))
+  sound-after room = record {
+    shaped = shaped-with c n (s .shaped) (c .vertices + added) rows' positions' (W .rows-lent) (W .positions-lent) room;
+    in-order = in-order-after (sound-rows c n s) W;
   }
-
-  pub sound-after : c .vertices + added ≤ vertex-capacity n → Sound (with-vertices c (c .vertices + added)) after
-  sound-after room = record { shaped = shaped-after room; in-order = in-order-after (sound-rows c n s) W }

@@ -2,8 +2,8 @@
 use mathlib.Core.Path.{sym, ap, _∙_}
 use native.Mathlib.Omega.{arith}
 use Rattle.ordering.specs.Order.{order, order-rows}
-use Rattle.ordering.proofs.Passes.{capacity-lent}
 use Rattle.rows.specs.Triples.{zero-triples}
+use Rattle.net.proofs.Shape.{capacity-lent}
 use Rattle.split.proofs.Ways.{never-unclosed, given}
 use Rattle.split.proofs.Stages.{reads-zero, goes, full, needs-met, all-written}
 use borrow.Author.Needs.{needs}

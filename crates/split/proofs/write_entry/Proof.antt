@@ -10,8 +10,8 @@ use Rattle.net.specs.Sound.{turn, Live}
 use Rattle.turning.specs.Walk.{walk}
 use Rattle.splitting.specs.Steps.{relabel-walk}
 use Rattle.ordering.specs.Order.{copy-bit, written}
-use Rattle.ordering.proofs.Passes.{capacity-lent, entry-listed, entry-named}
-use Rattle.split.proofs.Ways.{capacity-few}
+use Rattle.net.proofs.Shape.{capacity-lent, capacity-most}
+use Rattle.ordering.proofs.Passes.{entry-listed, entry-named}
 use borrow.Author.Needs.{needs}
 use Rattle.split.proofs.write_entry.Statement.{statement}
 use Rattle.split.proofs.write_entry.Tie as tie
@@ -53,13 +53,13 @@ returns-2 : tie.Need-returns-2
 returns-2 c = entry-named (c .before .before .before .before .before .before .before .before .args .halfedges) (c .before .before .before .before .before .before .before .before .args .vertices) (c .before .before .before .before .before .before .before .before .args .k) (c .before .before .before .before .before .before .before .before .args .x) (written (c .before .before .before .before .before .before .before .before .args .rows .now) (c .before .before .before .before .before .before .before .before .args .positions .now) (c .before .before .before .before .before .before .before .before .args .visit .now) (c .before .before .before .before .before .before .before .before .args .added)) (let g : copy-bit ≤ c .before .before .before .before .before .before .before .before .args .x = omega (arith, c .before .before .before .before .before .if1 .left) in g) nothing (ap (λ k. names (startOf (c .before .before .before .before .before .before .before .before .args .rows .now) k) (c .before .before .before .before .before .before .before .before .args .vertices)) (sym (c .before .before .before .before .halfedge-counted .ensures)) ∙ sym (c .before .before .start-of .ensures) ∙ ap vertexNamed (c .enum-told .given .1))
 
 add-copy-fan : tie.Need-add-copy-fan
-add-copy-fan c = omega (arith, (c .before .before .before .before .before .before .before .before .before .before .before .pre .room (let g : copy-bit ≤ c .before .before .before .before .before .before .before .before .before .before .before .args .x = omega (arith, c .before .before .before .before .before .before .before .before .if1 .left) in g) _ (ap (λ k. names (startOf (c .before .before .before .before .before .before .before .before .before .before .before .args .rows .now) k) (c .before .before .before .before .before .before .before .before .before .before .before .args .vertices)) (sym (c .before .before .before .before .before .before .before .halfedge-counted .ensures)) ∙ sym (c .before .before .before .before .before .start-of .ensures) ∙ ap vertexNamed (c .before .before .before .v .given .1))), capacity-few (c .before .before .before .before .before .before .before .before .before .before .before .args .positions .now))
+add-copy-fan c = omega (arith, (c .before .before .before .before .before .before .before .before .before .before .before .pre .room (let g : copy-bit ≤ c .before .before .before .before .before .before .before .before .before .before .before .args .x = omega (arith, c .before .before .before .before .before .before .before .before .if1 .left) in g) _ (ap (λ k. names (startOf (c .before .before .before .before .before .before .before .before .before .before .before .args .rows .now) k) (c .before .before .before .before .before .before .before .before .before .before .before .args .vertices)) (sym (c .before .before .before .before .before .before .before .halfedge-counted .ensures)) ∙ sym (c .before .before .before .before .before .start-of .ensures) ∙ ap vertexNamed (c .before .before .before .v .given .1))), capacity-most (c .before .before .before .before .before .before .before .before .before .before .before .args .positions .now))
 
 copy-fan-requires : tie.Need-copy-fan-requires
-copy-fan-requires c κs = (c .before .before .before .before .before .before .before .before .before .before .before .pre .round, (subst (Live (c .before .before .before .before .before .before .before .before .before .before .before .args .halfedges) (c .before .before .before .before .before .before .before .before .before .before .before .args .rows .now)) (sym (c .before .before .before .before .before .before .before .halfedge-counted .ensures)) (c .before .before .before .before .before .before .before .before .before .before .before .pre .live), (omega (arith, names-below (startOf (c .before .before .before .before .before .before .before .before .before .before .before .args .rows .now) (c .before .before .before .before .before .before .before .before .before .before .before .args .x % copy-bit)) (c .before .before .before .before .before .before .before .before .before .before .before .args .vertices) (ap (λ k. names (startOf (c .before .before .before .before .before .before .before .before .before .before .before .args .rows .now) k) (c .before .before .before .before .before .before .before .before .before .before .before .args .vertices)) (sym (c .before .before .before .before .before .before .before .halfedge-counted .ensures)) ∙ sym (c .before .before .before .before .before .start-of .ensures) ∙ ap vertexNamed (c .before .before .before .v .given .1)), c .before .before .before .before .before .before .before .before .before .before .before .pre .vertices-fit, capacity-lent (c .before .before .before .before .before .before .before .before .before .before .before .args .positions .now)), (omega (arith, (c .before .before .before .before .before .before .before .before .before .before .before .pre .room (let g : copy-bit ≤ c .before .before .before .before .before .before .before .before .before .before .before .args .x = omega (arith, c .before .before .before .before .before .before .before .before .if1 .left) in g) _ (ap (λ k. names (startOf (c .before .before .before .before .before .before .before .before .before .before .before .args .rows .now) k) (c .before .before .before .before .before .before .before .before .before .before .before .args .vertices)) (sym (c .before .before .before .before .before .before .before .halfedge-counted .ensures)) ∙ sym (c .before .before .before .before .before .start-of .ensures) ∙ ap vertexNamed (c .before .before .before .v .given .1))), capacity-lent (c .before .before .before .before .before .before .before .before .before .before .before .args .positions .now)), omega (arith, (c .before .before .before .before .before .before .before .before .before .before .before .pre .room (let g : copy-bit ≤ c .before .before .before .before .before .before .before .before .before .before .before .args .x = omega (arith, c .before .before .before .before .before .before .before .before .if1 .left) in g) _ (ap (λ k. names (startOf (c .before .before .before .before .before .before .before .before .before .before .before .args .rows .now) k) (c .before .before .before .before .before .before .before .before .before .before .before .args .vertices)) (sym (c .before .before .before .before .before .before .before .halfedge-counted .ensures)) ∙ sym (c .before .before .before .before .before .start-of .ensures) ∙ ap vertexNamed (c .before .before .before .v .given .1))), capacity-few (c .before .before .before .before .before .before .before .before .before .before .before .args .positions .now))))))
+copy-fan-requires c κs = (c .before .before .before .before .before .before .before .before .before .before .before .pre .round, (subst (Live (c .before .before .before .before .before .before .before .before .before .before .before .args .halfedges) (c .before .before .before .before .before .before .before .before .before .before .before .args .rows .now)) (sym (c .before .before .before .before .before .before .before .halfedge-counted .ensures)) (c .before .before .before .before .before .before .before .before .before .before .before .pre .live), (omega (arith, names-below (startOf (c .before .before .before .before .before .before .before .before .before .before .before .args .rows .now) (c .before .before .before .before .before .before .before .before .before .before .before .args .x % copy-bit)) (c .before .before .before .before .before .before .before .before .before .before .before .args .vertices) (ap (λ k. names (startOf (c .before .before .before .before .before .before .before .before .before .before .before .args .rows .now) k) (c .before .before .before .before .before .before .before .before .before .before .before .args .vertices)) (sym (c .before .before .before .before .before .before .before .halfedge-counted .ensures)) ∙ sym (c .before .before .before .before .before .start-of .ensures) ∙ ap vertexNamed (c .before .before .before .v .given .1)), c .before .before .before .before .before .before .before .before .before .before .before .pre .vertices-fit, capacity-lent (c .before .before .before .before .before .before .before .before .before .before .before .args .positions .now)), (omega (arith, (c .before .before .before .before .before .before .before .before .before .before .before .pre .room (let g : copy-bit ≤ c .before .before .before .before .before .before .before .before .before .before .before .args .x = omega (arith, c .before .before .before .before .before .before .before .before .if1 .left) in g) _ (ap (λ k. names (startOf (c .before .before .before .before .before .before .before .before .before .before .before .args .rows .now) k) (c .before .before .before .before .before .before .before .before .before .before .before .args .vertices)) (sym (c .before .before .before .before .before .before .before .halfedge-counted .ensures)) ∙ sym (c .before .before .before .before .before .start-of .ensures) ∙ ap vertexNamed (c .before .before .before .v .given .1))), capacity-lent (c .before .before .before .before .before .before .before .before .before .before .before .args .positions .now)), omega (arith, (c .before .before .before .before .before .before .before .before .before .before .before .pre .room (let g : copy-bit ≤ c .before .before .before .before .before .before .before .before .before .before .before .args .x = omega (arith, c .before .before .before .before .before .before .before .before .if1 .left) in g) _ (ap (λ k. names (startOf (c .before .before .before .before .before .before .before .before .before .before .before .args .rows .now) k) (c .before .before .before .before .before .before .before .before .before .before .before .args .vertices)) (sym (c .before .before .before .before .before .before .before .halfedge-counted .ensures)) ∙ sym (c .before .before .before .before .before .start-of .ensures) ∙ ap vertexNamed (c .before .before .before .v .given .1))), capacity-most (c .before .before .before .before .before .before .before .before .before .before .before .args .positions .now))))))
 
 add-result : tie.Need-add-result
-add-result c = omega (arith, (c .before .before .before .before .before .before .before .before .before .before .before .before .before .before .before .pre .room (let g : copy-bit ≤ c .before .before .before .before .before .before .before .before .before .before .before .before .before .before .before .args .x = omega (arith, c .before .before .before .before .before .before .before .before .before .before .before .before .if1 .left) in g) _ (ap (λ k. names (startOf (c .before .before .before .before .before .before .before .before .before .before .before .before .before .before .before .args .rows .now) k) (c .before .before .before .before .before .before .before .before .before .before .before .before .before .before .before .args .vertices)) (sym (c .before .before .before .before .before .before .before .before .before .before .before .halfedge-counted .ensures)) ∙ sym (c .before .before .before .before .before .before .before .before .before .start-of .ensures) ∙ ap vertexNamed (c .before .before .before .before .before .before .before .v .given .1))), capacity-few (c .before .before .before .before .before .before .before .before .before .before .before .before .before .before .before .args .positions .now))
+add-result c = omega (arith, (c .before .before .before .before .before .before .before .before .before .before .before .before .before .before .before .pre .room (let g : copy-bit ≤ c .before .before .before .before .before .before .before .before .before .before .before .before .before .before .before .args .x = omega (arith, c .before .before .before .before .before .before .before .before .before .before .before .before .if1 .left) in g) _ (ap (λ k. names (startOf (c .before .before .before .before .before .before .before .before .before .before .before .before .before .before .before .args .rows .now) k) (c .before .before .before .before .before .before .before .before .before .before .before .before .before .before .before .args .vertices)) (sym (c .before .before .before .before .before .before .before .before .before .before .before .halfedge-counted .ensures)) ∙ sym (c .before .before .before .before .before .before .before .before .before .start-of .ensures) ∙ ap vertexNamed (c .before .before .before .before .before .before .before .v .given .1))), capacity-most (c .before .before .before .before .before .before .before .before .before .before .before .before .before .before .before .args .positions .now))
 
 same-length-4 : tie.Need-same-length-4
 same-length-4 c = search needs
