@@ -4,13 +4,12 @@ use mathlib.Core.Path.{_≡_, refl, sym, ap, _∙_}
 use mathlib.Core.Bool.{Bool, true, false, cond}
 use mathlib.Core.List.{List, []}
 use Prim.Native.Nat.{ℕ}
-use native.Mathlib.Omega.{arith}
 use lib.Dec.{eqb}
 use lib.IntN.{ℤ, pos}
-use Rattle.answers.specs.Answers.{done, dead}
-use Rattle.answers.proofs.Laws.{numbers-differ}
+use Rattle.answers.specs.Answers.{Said, done, dead}
+use Rattle.answers.proofs.Laws.{first-value, read-back}
 use Rattle.laws.proofs.Tests.{by-test}
-use Rattle.numbers.specs.Numbers.{Named, at, nothing, names, halfedgeNumber}
+use Rattle.numbers.specs.Numbers.{Named, at, nothing, names}
 use Rattle.numbers.proofs.Names.{names-at}
 use Rattle.rows.specs.Halfedges.{is-paired}
 use Rattle.net.specs.declared.Counts.{Counts}
@@ -20,7 +19,6 @@ use Rattle.net.proofs.Sound.{live-paired}
 use Rattle.soundness.specs.Check.{checkNet}
 use Rattle.soundness.proofs.Told.{check-sound}
 use Rattle.steps.specs.Steps.{begin}
-use Rattle.steps.proofs.Entries.{same-row}
 use Rattle.folds.specs.declared.RemoveIfFolded.{RemoveIfFolded}
 use Rattle.folds.specs.declared.RemoveIfFolded.the-variants as R
 use Rattle.folds.specs.Folds.{fold}
@@ -55,34 +53,22 @@ module _ (c : Counts) (n : Net) (halfedge : ℤ) where
       go (at e) m = at-one e (is-paired (n .halfedges) e) m
       go nothing m = refl
 
-same : (a b : RemoveIfFolded) → removeSaid a ≡ removeSaid b → a ≡ b
-same R.Done R.Done e = refl
-same R.Done R.Shape e = numbers-differ e (λ z. omega arith)
-same R.Done (R.Unsound h) e = numbers-differ e (λ z. omega arith)
-same R.Done R.Number e = numbers-differ e (λ z. omega arith)
-same R.Done R.Dead e = numbers-differ e (λ z. omega arith)
-same R.Shape R.Done e = numbers-differ e (λ z. omega arith)
-same R.Shape R.Shape e = refl
-same R.Shape (R.Unsound h) e = numbers-differ e (λ z. omega arith)
-same R.Shape R.Number e = numbers-differ e (λ z. omega arith)
-same R.Shape R.Dead e = numbers-differ e (λ z. omega arith)
-same (R.Unsound g) R.Done e = numbers-differ e (λ z. omega arith)
-same (R.Unsound g) R.Shape e = numbers-differ e (λ z. omega arith)
-same (R.Unsound g) (R.Unsound h) e = let q = same-row (halfedgeNumber g) (halfedgeNumber h) e in λ i. R.Unsound (record { 0 = q i })
-same (R.Unsound g) R.Number e = numbers-differ e (λ z. omega arith)
-same (R.Unsound g) R.Dead e = numbers-differ e (λ z. omega arith)
-same R.Number R.Done e = numbers-differ e (λ z. omega arith)
-same R.Number R.Shape e = numbers-differ e (λ z. omega arith)
-same R.Number (R.Unsound h) e = numbers-differ e (λ z. omega arith)
-same R.Number R.Number e = refl
-same R.Number R.Dead e = numbers-differ e (λ z. omega arith)
-same R.Dead R.Done e = numbers-differ e (λ z. omega arith)
-same R.Dead R.Shape e = numbers-differ e (λ z. omega arith)
-same R.Dead (R.Unsound h) e = numbers-differ e (λ z. omega arith)
-same R.Dead R.Number e = numbers-differ e (λ z. omega arith)
-same R.Dead R.Dead e = refl
+-- the answer, read back from what is said
+abbrev answer-of : Said → RemoveIfFolded
+answer-of s =
+    cond (eqb (s .number) 0) R.Done
+    (cond (eqb (s .number) 1) R.Shape
+    (cond (eqb (s .number) 3) (R.Unsound (record { 0 = first-value s }))
+    (cond (eqb (s .number) 4) R.Number R.Dead)))
+
+told : (a : RemoveIfFolded) → answer-of (removeSaid a) ≡ a
+told R.Done = refl
+told R.Shape = refl
+told (R.Unsound h) = refl
+told R.Number = refl
+told R.Dead = refl
 
 pub remove-agree : (c : Counts) (n : Net) (halfedge : ℤ) (a b : RemoveIfFolded) (l m : List ℤ × List ℕ) →
     (removeSaid a, l) ≡ removeIfFolded c n halfedge → (removeSaid b, m) ≡ removeIfFolded c n halfedge → (a ≡ b) × (l ≡ m)
 remove-agree c n halfedge a b l m p q =
-    (same a b (ap (λ (o : Out). o .0) (p ∙ sym q)), ap (λ (o : Out). o .1) (p ∙ sym q))
+    (read-back removeSaid answer-of told a b (ap (λ (o : Out). o .0) (p ∙ sym q)), ap (λ (o : Out). o .1) (p ∙ sym q))

@@ -1,21 +1,20 @@
 -- What orbit_owners says, in words: 10 exactly when document 01 calls for it, 1 and 2 exactly when they are called for, and where it is
 -- done the list holds the owners. And two results that its contract allows agree.
 use mathlib.Core.Path.{_≡_, refl, sym, ap, _∙_, subst}
-use mathlib.Core.Bool.{true}
+use mathlib.Core.Bool.{true, cond}
 use mathlib.Core.List.{List, [], _∷_}
 use mathlib.Core.Logic.{_⊎_, inl, inr, _↔_}
 use Prim.Native.Nat.{ℕ, _≤_, _<_}
 use native.Mathlib.Omega.{arith}
 use native.Mathlib.Decide.{decLt, decLe}
 use borrow.Author.Tests.{leb-true, le-leb}
-use lib.Dec.{leb}
+use lib.Dec.{eqb, leb}
 use lib.IntN.{ℤ, pos}
 use lib.ListN.{length, take, drop}
 use lib.Seq.{take-at, drop-at}
 use Rattle.answers.specs.Answers.{Said, whole, done, shape, short-buffer, no-owners}
-use Rattle.answers.proofs.Laws.{values-agree, numbers-differ}
+use Rattle.answers.proofs.Laws.{numbers-differ, first-value, read-back}
 use Rattle.laws.proofs.Tests.{by-test, and2, both2, not-both}
-use Rattle.laws.proofs.Integers.{pos-inj}
 use Rattle.net.specs.declared.Counts.{Counts}
 use Rattle.net.specs.Net.{Net}
 use Rattle.net.specs.Counts.{Shaped, is-shaped}
@@ -204,30 +203,22 @@ module _ (e : Eligible) (c : Counts) (n : Net) (work list : List ℕ) where
       front q = ap (λ (x : Outcome). take (length (owners e H rows)) (x .list)) q ∙ take-at (owners e H rows) (drop (length (owners e H rows)) list) (length (owners e H rows)) refl
 
 -- ---- two results agree
-same-count : (a b : ℕ) → done (whole (pos a) ∷ []) ≡ done (whole (pos b) ∷ []) → a ≡ b
-same-count a b e = let v = values-agree e in let q : pos a ≡ pos b = cc in pos-inj q
+-- the answer, read back from what is said
+abbrev answer-of : Said → Owners
+answer-of s =
+    cond (eqb (s .number) 0) (O.Done (first-value s))
+    (cond (eqb (s .number) 1) O.Shape
+    (cond (eqb (s .number) 2) O.ShortBuffer O.NoOwners))
 
-same : (a b : Owners) → ownersSaid a ≡ ownersSaid b → a ≡ b
-same (O.Done a) (O.Done b) e = ap O.Done (same-count a b e)
-same (O.Done a) O.Shape e = numbers-differ e (λ z. omega arith)
-same (O.Done a) O.ShortBuffer e = numbers-differ e (λ z. omega arith)
-same (O.Done a) O.NoOwners e = numbers-differ e (λ z. omega arith)
-same O.Shape (O.Done b) e = numbers-differ e (λ z. omega arith)
-same O.Shape O.Shape e = refl
-same O.Shape O.ShortBuffer e = numbers-differ e (λ z. omega arith)
-same O.Shape O.NoOwners e = numbers-differ e (λ z. omega arith)
-same O.ShortBuffer (O.Done b) e = numbers-differ e (λ z. omega arith)
-same O.ShortBuffer O.Shape e = numbers-differ e (λ z. omega arith)
-same O.ShortBuffer O.ShortBuffer e = refl
-same O.ShortBuffer O.NoOwners e = numbers-differ e (λ z. omega arith)
-same O.NoOwners (O.Done b) e = numbers-differ e (λ z. omega arith)
-same O.NoOwners O.Shape e = numbers-differ e (λ z. omega arith)
-same O.NoOwners O.ShortBuffer e = numbers-differ e (λ z. omega arith)
-same O.NoOwners O.NoOwners e = refl
+told : (a : Owners) → answer-of (ownersSaid a) ≡ a
+told (O.Done count) = refl
+told O.Shape = refl
+told O.ShortBuffer = refl
+told O.NoOwners = refl
 
 pub owners-agree : (e : Eligible) (c : Counts) (n : Net) (work list : List ℕ) (a b : Owners) (w w' l l' : List ℕ)
     → outcome (ownersSaid a) w l ≡ orbitOwners e c n work list → outcome (ownersSaid b) w' l' ≡ orbitOwners e c n work list
     → (a ≡ b) × (w ≡ w') × (l ≡ l')
 owners-agree e c n work list a b w w' l l' p q =
     let z = p ∙ sym q in
-    (same a b (ap (λ (x : Outcome). x .said) z), ap (λ (x : Outcome). x .work) z, ap (λ (x : Outcome). x .list) z)
+    (read-back ownersSaid answer-of told a b (ap (λ (x : Outcome). x .said) z), ap (λ (x : Outcome). x .work) z, ap (λ (x : Outcome). x .list) z)

@@ -8,11 +8,10 @@ use Prim.Native.Nat.{ℕ, _<_}
 use native.Mathlib.Omega.{arith}
 use borrow.Author.Tests.{ltb-true, ltb-false}
 use lib.Dec.{ltb}
-use lib.IntN.{ℤ, pos}
+use lib.IntN.{ℤ}
 use Rattle.answers.specs.Answers.{done, shape, unsound}
-use Rattle.answers.proofs.Laws.{numbers-differ, values-agree}
+use Rattle.answers.proofs.Laws.{numbers-differ, same-row}
 use Rattle.laws.proofs.Tests.{by-test}
-use Rattle.laws.proofs.Integers.{pos-inj}
 use Rattle.numbers.specs.Numbers.{Named, at, nothing, halfedgeNumber}
 use Rattle.net.specs.declared.Counts.{Counts}
 use Rattle.net.specs.Net.{Net}
@@ -25,9 +24,6 @@ use Rattle.soundness.specs.Check.{checkSaid, checkNet}
 use Rattle.soundness.specs.Order.{in-order, least-out}
 use Rattle.soundness.proofs.Right.{in-order-yes, out-of-order}
 use Rattle.soundness.proofs.Search.{none-fails, found-fails}
-
-same-row : (g h : ℕ) → unsound g ≡ unsound h → g ≡ h
-same-row g h e = let v = values-agree e in let q : pos g ≡ pos h = cc in pos-inj q
 
 -- there is one least row out of order
 pub least-unique : (H N : ℕ) (rows : List ℤ) (g h : ℕ) → LeastOut H N rows g → LeastOut H N rows h → g ≡ h

@@ -4,15 +4,14 @@ use mathlib.Core.Path.{_≡_, refl, sym, ap, _∙_}
 use mathlib.Core.Bool.{Bool, true, false, cond}
 use mathlib.Core.List.{List, []}
 use Prim.Native.Nat.{ℕ, _%_, _<_, _≤_}
-use native.Mathlib.Omega.{arith}
 use lib.Dec.{eqb}
 use lib.IntN.{ℤ, pos, negsuc, pos-ne-negsuc}
 use Rattle.answers.specs.Answers.{Said, done, shape, unsound, bad-number, dead}
-use Rattle.answers.proofs.Laws.{numbers-differ}
+use Rattle.answers.proofs.Laws.{first-value, read-back}
 use Rattle.laws.specs.Integers.{eqZ}
 use Rattle.laws.proofs.Integers.{eqZ-no}
 use Rattle.laws.proofs.Tests.{by-test}
-use Rattle.numbers.specs.Numbers.{Named, at, nothing, names, named-or, halfedgeNumber}
+use Rattle.numbers.specs.Numbers.{Named, at, nothing, names, named-or}
 use Rattle.numbers.specs.Next.{next}
 use Rattle.numbers.proofs.Names.{names-at}
 use Rattle.rows.specs.Halfedges.{pairOf, none, is-paired, lent-halfedges}
@@ -24,7 +23,6 @@ use Rattle.net.proofs.Sound.{live-paired, live-row, next-live}
 use Rattle.soundness.specs.Check.{checkNet}
 use Rattle.soundness.proofs.Told.{check-sound}
 use Rattle.steps.specs.Steps.{Middle, refused, with-rows, begin}
-use Rattle.steps.proofs.Entries.{same-row}
 use Rattle.triangles.specs.declared.CollapseTri.{CollapseTri}
 use Rattle.triangles.specs.declared.CollapseTri.the-variants as C
 use Rattle.triangles.specs.Triangles.{collapsed, collapse, Collapsed}
@@ -95,34 +93,22 @@ module _ (c : Counts) (n : Net) (halfedge : ℤ) where
       go (at e) m = at-one e (is-paired rows e) m
       go nothing m = refl
 
-same : (a b : CollapseTri) → collapseSaid a ≡ collapseSaid b → a ≡ b
-same C.Done C.Done e = refl
-same C.Done C.Shape e = numbers-differ e (λ z. omega arith)
-same C.Done (C.Unsound h) e = numbers-differ e (λ z. omega arith)
-same C.Done C.Number e = numbers-differ e (λ z. omega arith)
-same C.Done C.Dead e = numbers-differ e (λ z. omega arith)
-same C.Shape C.Done e = numbers-differ e (λ z. omega arith)
-same C.Shape C.Shape e = refl
-same C.Shape (C.Unsound h) e = numbers-differ e (λ z. omega arith)
-same C.Shape C.Number e = numbers-differ e (λ z. omega arith)
-same C.Shape C.Dead e = numbers-differ e (λ z. omega arith)
-same (C.Unsound g) C.Done e = numbers-differ e (λ z. omega arith)
-same (C.Unsound g) C.Shape e = numbers-differ e (λ z. omega arith)
-same (C.Unsound g) (C.Unsound h) e = let q = same-row (halfedgeNumber g) (halfedgeNumber h) e in λ i. C.Unsound (record { 0 = q i })
-same (C.Unsound g) C.Number e = numbers-differ e (λ z. omega arith)
-same (C.Unsound g) C.Dead e = numbers-differ e (λ z. omega arith)
-same C.Number C.Done e = numbers-differ e (λ z. omega arith)
-same C.Number C.Shape e = numbers-differ e (λ z. omega arith)
-same C.Number (C.Unsound h) e = numbers-differ e (λ z. omega arith)
-same C.Number C.Number e = refl
-same C.Number C.Dead e = numbers-differ e (λ z. omega arith)
-same C.Dead C.Done e = numbers-differ e (λ z. omega arith)
-same C.Dead C.Shape e = numbers-differ e (λ z. omega arith)
-same C.Dead (C.Unsound h) e = numbers-differ e (λ z. omega arith)
-same C.Dead C.Number e = numbers-differ e (λ z. omega arith)
-same C.Dead C.Dead e = refl
+-- the answer, read back from what is said
+abbrev answer-of : Said → CollapseTri
+answer-of s =
+    cond (eqb (s .number) 0) C.Done
+    (cond (eqb (s .number) 1) C.Shape
+    (cond (eqb (s .number) 3) (C.Unsound (record { 0 = first-value s }))
+    (cond (eqb (s .number) 4) C.Number C.Dead)))
+
+told : (a : CollapseTri) → answer-of (collapseSaid a) ≡ a
+told C.Done = refl
+told C.Shape = refl
+told (C.Unsound h) = refl
+told C.Number = refl
+told C.Dead = refl
 
 pub collapse-agree : (c : Counts) (n : Net) (halfedge : ℤ) (a b : CollapseTri) (l m : List ℤ) →
     (collapseSaid a, l) ≡ collapseTri c n halfedge → (collapseSaid b, m) ≡ collapseTri c n halfedge → (a ≡ b) × (l ≡ m)
 collapse-agree c n halfedge a b l m p q =
-    (same a b (ap (λ (o : Said × List ℤ). o .0) (p ∙ sym q)), ap (λ (o : Said × List ℤ). o .1) (p ∙ sym q))
+    (read-back collapseSaid answer-of told a b (ap (λ (o : Said × List ℤ). o .0) (p ∙ sym q)), ap (λ (o : Said × List ℤ). o .1) (p ∙ sym q))

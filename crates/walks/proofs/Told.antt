@@ -14,10 +14,10 @@ use lib.IntN.{ℤ, pos, natAbs}
 use lib.ListN.{length}
 use lib.Signed.{leZ}
 use Rattle.answers.specs.Answers.{Said, done, shape, unsound, bad-number, dead, stopped}
-use Rattle.answers.proofs.Laws.{numbers-differ, values-agree}
+use Rattle.answers.proofs.Laws.{numbers-differ, values-agree, first-value, read-back}
 use Rattle.laws.proofs.Integers.{pos-inj}
 use Rattle.laws.proofs.Tests.{by-test}
-use Rattle.numbers.specs.Numbers.{Named, at, nothing, names, named-or, halfedgeNumber}
+use Rattle.numbers.specs.Numbers.{Named, at, nothing, names, named-or}
 use Rattle.numbers.specs.Next.{next}
 use Rattle.numbers.proofs.Names.{names-at}
 use Rattle.numbers.proofs.NextLaws.{next-in, next-inj}
@@ -33,7 +33,6 @@ use Rattle.soundness.proofs.Told.{check-sound}
 use Rattle.turning.specs.Fan.{iter, Reach, Turning}
 use Rattle.turning.proofs.Orbit.{iter-suc, period, soon}
 use Rattle.steps.specs.Entries.{past}
-use Rattle.steps.proofs.Entries.{same-row}
 use Rattle.walks.specs.declared.UpdateVert.{UpdateVert}
 use Rattle.walks.specs.declared.UpdateVert.the-variants as U
 use Rattle.walks.specs.Walk.{onward, moved, reaches, walked, walk}
@@ -273,45 +272,24 @@ module _ (c : Counts) (n : Net) (vertex first last : ℤ) where
       go (at v) nothing z m = refl
       go nothing y z m = refl
 
-same : (a b : UpdateVert) → updateSaid a ≡ updateSaid b → a ≡ b
-same U.Done U.Done e = refl
-same U.Done U.Shape e = numbers-differ e (λ z. omega arith)
-same U.Done (U.Unsound h) e = numbers-differ e (λ z. omega arith)
-same U.Done U.Number e = numbers-differ e (λ z. omega arith)
-same U.Done U.Dead e = numbers-differ e (λ z. omega arith)
-same U.Done U.Stopped e = numbers-differ e (λ z. omega arith)
-same U.Shape U.Done e = numbers-differ e (λ z. omega arith)
-same U.Shape U.Shape e = refl
-same U.Shape (U.Unsound h) e = numbers-differ e (λ z. omega arith)
-same U.Shape U.Number e = numbers-differ e (λ z. omega arith)
-same U.Shape U.Dead e = numbers-differ e (λ z. omega arith)
-same U.Shape U.Stopped e = numbers-differ e (λ z. omega arith)
-same (U.Unsound g) U.Done e = numbers-differ e (λ z. omega arith)
-same (U.Unsound g) U.Shape e = numbers-differ e (λ z. omega arith)
-same (U.Unsound g) (U.Unsound h) e = let q = same-row (halfedgeNumber g) (halfedgeNumber h) e in λ i. U.Unsound (record { 0 = q i })
-same (U.Unsound g) U.Number e = numbers-differ e (λ z. omega arith)
-same (U.Unsound g) U.Dead e = numbers-differ e (λ z. omega arith)
-same (U.Unsound g) U.Stopped e = numbers-differ e (λ z. omega arith)
-same U.Number U.Done e = numbers-differ e (λ z. omega arith)
-same U.Number U.Shape e = numbers-differ e (λ z. omega arith)
-same U.Number (U.Unsound h) e = numbers-differ e (λ z. omega arith)
-same U.Number U.Number e = refl
-same U.Number U.Dead e = numbers-differ e (λ z. omega arith)
-same U.Number U.Stopped e = numbers-differ e (λ z. omega arith)
-same U.Dead U.Done e = numbers-differ e (λ z. omega arith)
-same U.Dead U.Shape e = numbers-differ e (λ z. omega arith)
-same U.Dead (U.Unsound h) e = numbers-differ e (λ z. omega arith)
-same U.Dead U.Number e = numbers-differ e (λ z. omega arith)
-same U.Dead U.Dead e = refl
-same U.Dead U.Stopped e = numbers-differ e (λ z. omega arith)
-same U.Stopped U.Done e = numbers-differ e (λ z. omega arith)
-same U.Stopped U.Shape e = numbers-differ e (λ z. omega arith)
-same U.Stopped (U.Unsound h) e = numbers-differ e (λ z. omega arith)
-same U.Stopped U.Number e = numbers-differ e (λ z. omega arith)
-same U.Stopped U.Dead e = numbers-differ e (λ z. omega arith)
-same U.Stopped U.Stopped e = refl
+-- the answer, read back from what is said
+abbrev answer-of : Said → UpdateVert
+answer-of s =
+    cond (eqb (s .number) 0) U.Done
+    (cond (eqb (s .number) 1) U.Shape
+    (cond (eqb (s .number) 3) (U.Unsound (record { 0 = first-value s }))
+    (cond (eqb (s .number) 4) U.Number
+    (cond (eqb (s .number) 5) U.Dead U.Stopped))))
+
+answer-told : (a : UpdateVert) → answer-of (updateSaid a) ≡ a
+answer-told U.Done = refl
+answer-told U.Shape = refl
+answer-told (U.Unsound h) = refl
+answer-told U.Number = refl
+answer-told U.Dead = refl
+answer-told U.Stopped = refl
 
 pub update-agree : (c : Counts) (n : Net) (vertex first last : ℤ) (a b : UpdateVert) (l m : List ℤ) →
     (updateSaid a, l) ≡ updateVert c n vertex first last → (updateSaid b, m) ≡ updateVert c n vertex first last → (a ≡ b) × (l ≡ m)
 update-agree c n vertex first last a b l m p q =
-    (same a b (ap (λ (o : Said × List ℤ). o .0) (p ∙ sym q)), ap (λ (o : Said × List ℤ). o .1) (p ∙ sym q))
+    (read-back updateSaid answer-of answer-told a b (ap (λ (o : Said × List ℤ). o .0) (p ∙ sym q)), ap (λ (o : Said × List ℤ). o .1) (p ∙ sym q))
