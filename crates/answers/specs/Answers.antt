@@ -1,8 +1,8 @@
 -- What a call says: document 01's number, and the values that come with it. Each entry's answer is an enum of its own;
 -- a definition beside it takes each of its cases to one of these, and the entry's contract is about what is said.
-use Prim.Native.Nat.{ℕ}
+use Prim.Native.Nat.{ℕ, zero, suc}
 use mathlib.Core.List.{List, [], _∷_}
-use lib.IntN.{ℤ, pos}
+use lib.IntN.{ℤ, pos, negsuc}
 use lib.Ieee.{Float}
 
 -- a half-edge, a row or a count; a squared length or a limit
@@ -13,6 +13,17 @@ pub data Value : Type 0 where
 pub record Said : Type 0 where
   pub number : ℕ
   pub values : List Value
+
+-- the value that came at a place, 0 where none came; and it as a count
+abbrev pub value : List Value → ℕ → Value
+value [] k = whole (pos 0)
+value (v ∷ vs) zero = v
+value (v ∷ vs) (suc k) = value vs k
+
+abbrev pub counted : Value → ℕ
+counted (whole (pos n)) = n
+counted (whole (negsuc n)) = 0
+counted (float f) = 0
 
 -- 0: the work was done
 abbrev pub done : List Value → Said

@@ -15,3 +15,7 @@ module _ {A : Type 0} where
   -- d with z from a up to b
   abbrev pub filled : A → ℕ → ℕ → List A → List A
   filled z a b d = take a d ++ (replicate (b - a) z ++ drop b d)
+
+-- a work buffer that reads zero over n and is unchanged beyond
+abbrev pub cleared : ℕ → List ℕ → List ℕ
+cleared n work = filled 0 0 n work

@@ -16,14 +16,13 @@ use Rattle.numbers.proofs.Names.{names-below}
 use Rattle.rows.specs.Halfedges.{is-paired}
 use Rattle.net.specs.declared.Counts.{Counts}
 use Rattle.net.specs.Net.{Net, net}
-use Rattle.net.specs.Counts.{is-shaped, spare-holds, vertex-capacity-over}
+use Rattle.net.specs.Counts.{with-vertices, is-shaped, spare-holds, vertex-capacity-over}
 use Rattle.net.specs.Sound.{Live, Sound}
 use Rattle.net.proofs.Shape.{capacities, within, shaped-true, shaped-with}
 use Rattle.net.proofs.Sound.{paired-live}
 use Rattle.soundness.specs.Check.{sound-or, checkNet}
 use Rattle.soundness.specs.Order.{least-out}
 use Rattle.soundness.proofs.Told.{check-sound}
-use Rattle.splitting.specs.Told.{with-vertices}
 use Rattle.steps.specs.declared.How.{How}
 use Rattle.steps.specs.declared.How.the-variants as W
 use Rattle.steps.specs.Steps.{Middle, refused, is-refused, begin, how-said}

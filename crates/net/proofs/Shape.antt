@@ -18,7 +18,7 @@ use Rattle.rows.specs.Halfedges.{lent-halfedges}
 use Rattle.rows.specs.Triples.{lent-triples}
 use Rattle.net.specs.declared.Counts.{Counts}
 use Rattle.net.specs.Net.{Net, net}
-use Rattle.net.specs.Counts.{most-triangles, most-vertices, most-num-prop, most-properties, triangles, triangle-capacity-over, vertex-capacity-over, property-capacity-over, lent-properties, triangle-capacity, halfedge-capacity, vertex-capacity, property-capacity, Shaped, none-or-all, is-shaped}
+use Rattle.net.specs.Counts.{with-vertices, most-triangles, most-vertices, most-num-prop, most-properties, triangles, triangle-capacity-over, vertex-capacity-over, property-capacity-over, lent-properties, triangle-capacity, halfedge-capacity, vertex-capacity, property-capacity, Shaped, none-or-all, is-shaped}
 
 -- the triangle capacity over each array
 module _ (c : Counts) (halfedges : List ℤ) (normals : List ℕ) (references : List ℤ) where
@@ -160,7 +160,7 @@ module _ (c : Counts) (n : Net) where
 
   -- other half-edge rows and positions, as many as there were, with k vertices in use
   pub shaped-with : Shaped c n → (k : ℕ) (h : List ℤ) (p : List ℕ) → length h ≡ length (n .halfedges) → length p ≡ length (n .positions) → k ≤ vertex-capacity n →
-      Shaped (record { halfedges = c .halfedges; vertices = k; normals = c .normals; references = c .references; properties = c .properties; «num_prop» = c .«num_prop» })
+      Shaped (with-vertices c k)
       (net h p (n .normals) (n .references) (n .properties))
   unfolding triangle-capacity-over vertex-capacity-over property-capacity-over
   shaped-with s k h p eh ep room = record {

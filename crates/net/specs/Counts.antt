@@ -28,6 +28,11 @@ most-properties = 3000000
 abbrev pub triangles : Counts → ℕ
 triangles c = c .halfedges / 3
 
+-- the same counts, but for the vertices
+abbrev pub with-vertices : Counts → ℕ → Counts
+with-vertices c k =
+    record { halfedges = c .halfedges; vertices = k; normals = c .normals; references = c .references; properties = c .properties; «num_prop» = c .«num_prop» }
+
 -- references and normals limit the triangles only where some are in use
 abbrev pub triangles-for : ℕ → ℕ → ℕ
 triangles-for used lent = cond (eqb used 0) most-triangles lent

@@ -12,9 +12,10 @@ use lib.ListN.{length, getD}
 use Rattle.laws.proofs.Tests.{by-test, not-both, is-false, or-right}
 use Rattle.laws.proofs.Stretches.{filled-again}
 use Rattle.answers.specs.Answers.{whole, done, no-owners}
+use Rattle.laws.specs.Stretches.{cleared}
 use Rattle.owners.specs.declared.Eligible.{Eligible}
 use Rattle.owners.specs.Tests.{all-below, those-below, points-back, met-or-back, owns, has-owners, owners}
-use Rattle.owners.specs.Scan.{outcome, cleared, listed, scan, InUse, Back}
+use Rattle.owners.specs.Scan.{outcome, listed, scan, InUse, Back}
 use Rattle.owners.specs.Marks.{Left, Scanned, Owned}
 use Rattle.owners.proofs.Below.{all-yes, all-true, all-stop, all-no, those-same}
 use Rattle.owners.proofs.Points.{back-yes}

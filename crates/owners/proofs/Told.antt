@@ -15,6 +15,7 @@ use lib.Seq.{take-at, drop-at}
 use Rattle.answers.specs.Answers.{Said, whole, done, shape, short-buffer, no-owners}
 use Rattle.answers.proofs.Laws.{numbers-differ, first-value, read-back}
 use Rattle.laws.proofs.Tests.{by-test, and2, both2, not-both}
+use Rattle.laws.specs.Stretches.{cleared}
 use Rattle.net.specs.declared.Counts.{Counts}
 use Rattle.net.specs.Net.{Net}
 use Rattle.net.specs.Counts.{Shaped, is-shaped}
@@ -29,7 +30,7 @@ use Rattle.owners.specs.declared.Owners.{Owners}
 use Rattle.owners.specs.declared.Owners.the-variants as O
 use Rattle.owners.specs.Words.{IsEligible, NoOwners, Owner, IsList}
 use Rattle.owners.specs.Tests.{eligible, owns, has-owners, owners}
-use Rattle.owners.specs.Scan.{Outcome, outcome, cleared, listed, scan, buffers-long, orbitOwners, ownersSaid, InUse}
+use Rattle.owners.specs.Scan.{Outcome, outcome, listed, scan, buffers-long, orbitOwners, ownersSaid, InUse}
 use Rattle.owners.specs.Promise.{IsDone}
 use Rattle.owners.proofs.Below.{those-rise, those-once, those-only}
 use Rattle.owners.proofs.Fan.{Closed, fans}

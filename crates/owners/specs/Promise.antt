@@ -5,13 +5,14 @@ use Prim.Native.Nat.{ℕ, _<_}
 use lib.IntN.{pos}
 use lib.ListN.{length, take, drop}
 use Rattle.answers.specs.Answers.{whole, done}
+use Rattle.laws.specs.Stretches.{cleared}
 use Rattle.net.specs.declared.Counts.{Counts}
 use Rattle.net.specs.Net.{Net}
 use Rattle.net.specs.Sound.{turn}
 use Rattle.turning.specs.Fan.{Reach, Count}
 use Rattle.owners.specs.declared.Eligible.{Eligible}
 use Rattle.owners.specs.Words.{IsEligible, Owner, IsList}
-use Rattle.owners.specs.Scan.{Outcome, cleared}
+use Rattle.owners.specs.Scan.{Outcome}
 
 -- answer 0, with the count
 pub record IsDone (e : Eligible) (c : Counts) (n : Net) (work list : List ℕ) (o : Outcome) (count : ℕ) : Type 0 where

@@ -6,7 +6,7 @@ use Prim.Native.Nat.{ℕ, _%_, _≤_, _<_}
 use lib.IntN.{ℤ, pos}
 use lib.ListN.{length, drop}
 use Rattle.answers.specs.Answers.{Said, whole, done, shape, short-buffer, no-owners}
-use Rattle.laws.specs.Stretches.{filled}
+use Rattle.laws.specs.Stretches.{cleared}
 use Rattle.numbers.specs.Next.{most-halfedges}
 use Rattle.rows.specs.Halfedges.{lent-halfedges}
 use Rattle.net.specs.declared.Counts.{Counts}
@@ -27,10 +27,6 @@ pub record Outcome : Type 0 where
 
 abbrev pub outcome : Said → List ℕ → List ℕ → Outcome
 outcome s w l = record { said = s; work = w; list = l }
-
--- a work buffer that reads zero over n and is unchanged beyond
-abbrev pub cleared : ℕ → List ℕ → List ℕ
-cleared n work = filled 0 0 n work
 
 -- xs from the front of a list on, the rest kept
 abbrev pub listed : List ℕ → List ℕ → List ℕ

@@ -11,11 +11,12 @@ use lib.IntN.{ℤ}
 use lib.ListN.{length, getD}
 use Rattle.answers.specs.Answers.{Said, open-fan, no-room}
 use Rattle.laws.proofs.Stretches.{filled-reads}
+use Rattle.laws.specs.Stretches.{cleared}
 use Rattle.rows.specs.Triples.{zero-triples}
 use Rattle.net.specs.Counts.{vertex-capacity-over}
 use Rattle.splitting.specs.Needs.{SoundRows}
 use Rattle.splitting.specs.Steps.{Tallied, tallied, unclosed, count, State, state, split-rows}
-use Rattle.splitting.specs.Split.{Outcome, outcome, cleared, done-with, all-split, by-room, by-count, split-sound}
+use Rattle.splitting.specs.Split.{Outcome, outcome, done-with, all-split, by-room, by-count, split-sound}
 use Rattle.splitting.proofs.Net.{round-of}
 use Rattle.splitting.proofs.Told.{by-pass}
 use Rattle.ordering.specs.Order.{order, order-rows, Written, written, write-order}

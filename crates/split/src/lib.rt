@@ -4,13 +4,14 @@
 ghost use mathlib.Core.Path.{_≡_};
 ghost use Prim.Native.Nat.{ℕ, _+_, _<_, _≤_, _^_};
 ghost use lib.ListN.{length, getD, drop};
+ghost use Rattle.laws.specs.Stretches.{cleared};
 ghost use Rattle.numbers.specs.Numbers.{halfedgeNumber, vertexNumber};
 ghost use Rattle.net.specs.Net.{net};
 ghost use Rattle.net.specs.Counts.{vertex-capacity-over};
 ghost use Rattle.net.specs.Sound.{turn};
 ghost use Rattle.turning.specs.Walk.{walk};
 ghost use Rattle.splitting.specs.Needs.{SoundRows};
-ghost use Rattle.splitting.specs.Split.{outcome, cleared, split-sound, splitPinched};
+ghost use Rattle.splitting.specs.Split.{outcome, split-sound, splitPinched};
 ghost use Rattle.ordering.specs.Order.{order, order-fan, order-row, order-rows, written, write-entry, write-order};
 ghost use Rattle.ordering.specs.Needs.{FanOrder, RowOrder, EntryNeeds, OrderNeeds};
 ghost use Rattle.split.specs.Answer.{Gives, splitSaid};

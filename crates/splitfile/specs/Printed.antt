@@ -2,11 +2,11 @@
 -- other.
 use mathlib.Core.Bool.{cond}
 use mathlib.Core.List.{List, [], _∷_, _++_}
-use Prim.Native.Nat.{ℕ, zero, suc, _+_, _*_}
+use Prim.Native.Nat.{ℕ, _+_, _*_}
 use lib.Dec.{eqb}
-use lib.IntN.{ℤ, pos, negsuc}
+use lib.IntN.{ℤ, pos}
 use lib.ListN.{length, drop, replicate}
-use Rattle.answers.specs.Answers.{Said, Value, whole, float}
+use Rattle.answers.specs.Answers.{Said, value, counted}
 use Rattle.rows.specs.Halfedges.{width, append-row}
 use Rattle.rows.specs.Triples.{put-triple}
 use Rattle.net.specs.declared.Counts.{Counts}
@@ -18,20 +18,12 @@ use Rattle.report.specs.declared.Outcome.{Outcome}
 use Rattle.report.specs.declared.Outcome.the-variants as O
 use Rattle.report.specs.Report.{euler, text-of}
 
--- the count that came with an answer, at a place
-abbrev pub counted : List Value → ℕ → ℕ
-counted [] k = 0
-counted (whole (pos n) ∷ values) zero = n
-counted (whole (negsuc n) ∷ values) zero = 0
-counted (float f ∷ values) zero = 0
-counted (v ∷ values) (suc k) = counted values k
-
 -- what is reported of an answer: added and steps with 0, the row with 3, with another the answer alone
 abbrev pub outcome-of : Said → Outcome
 outcome-of s =
     cond (eqb (s .number) 0)
-    (O.Done (counted (s .values) 0) (counted (s .values) 1))
-    (cond (eqb (s .number) 3) (O.Unsound (counted (s .values) 0)) (O.Refused (s .number)))
+    (O.Done (counted (value (s .values) 0)) (counted (value (s .values) 1)))
+    (cond (eqb (s .number) 3) (O.Unsound (counted (value (s .values) 0))) (O.Refused (s .number)))
 
 -- vertex rows after the split
 abbrev pub vertices-after : ℕ → Outcome → ℕ

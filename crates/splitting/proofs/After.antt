@@ -9,7 +9,7 @@ use Rattle.numbers.specs.Next.{next}
 use Rattle.rows.specs.Halfedges.{startOf, endOf, pairOf}
 use Rattle.net.specs.declared.Counts.{Counts}
 use Rattle.net.specs.Net.{Net, net}
-use Rattle.net.specs.Counts.{vertex-capacity}
+use Rattle.net.specs.Counts.{with-vertices, vertex-capacity}
 use Rattle.net.specs.Sound.{start-vertex, partner, turn, Live, LiveRow, Empty, DeadRow, InOrder, Sound}
 use Rattle.net.proofs.Shape.{shaped-with}
 use Rattle.net.proofs.Sound.{empty-not-live, live-row-live, partner-live, next-live, pair-involution}
@@ -18,7 +18,6 @@ use Rattle.turning.proofs.Orbit.{reach-sym}
 use Rattle.turning.proofs.Fans.{fan-start}
 use Rattle.splitting.specs.Needs.{SoundRows}
 use Rattle.splitting.specs.Promise.{IsSplit}
-use Rattle.splitting.specs.Told.{with-vertices}
 use Rattle.splitting.proofs.Net.{T, row-of, sound-rows}
 
 module _ {H N : ℕ} {rows : List ℤ} {positions : List ℕ} {rows' : List ℤ} {positions' visits : List ℕ} {added : ℕ}

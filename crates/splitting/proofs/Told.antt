@@ -16,6 +16,7 @@ use Rattle.answers.specs.Answers.{Said, open-fan, no-room}
 use Rattle.answers.proofs.Laws.{numbers-differ}
 use Rattle.laws.proofs.Tests.{by-test, both2}
 use Rattle.laws.proofs.Stretches.{length-filled, filled-reads, front-written, rest-kept}
+use Rattle.laws.specs.Stretches.{cleared}
 use Rattle.numbers.specs.Numbers.{Named, at, nothing}
 use Rattle.rows.specs.Triples.{lent-triples}
 use Rattle.net.specs.declared.Counts.{Counts}
@@ -32,7 +33,7 @@ use Rattle.turning.proofs.Occ.{count-length}
 use Rattle.turning.proofs.Orbit.{lead-dec, is-start-dec}
 use Rattle.splitting.specs.Needs.{SoundRows}
 use Rattle.splitting.specs.Steps.{Tallied, tallied, unclosed, count, State, state, split-rows}
-use Rattle.splitting.specs.Split.{Outcome, outcome, cleared, done-with, all-split, written, none-free, by-count, split-sound, by-order, buffers-long, splitPinched}
+use Rattle.splitting.specs.Split.{Outcome, outcome, done-with, all-split, written, none-free, by-count, split-sound, by-order, buffers-long, splitPinched}
 use Rattle.splitting.specs.Promise.{Fans, Starts, IsSplit}
 use Rattle.splitting.specs.Told.{IsDone, IsFull}
 use Rattle.splitting.proofs.Net.{T, sound-rows}

@@ -6,7 +6,7 @@ use lib.Dec.{leb}
 use lib.IntN.{ℤ, pos}
 use lib.ListN.{length}
 use Rattle.answers.specs.Answers.{Said, whole, done, shape, short-buffer, unsound, open-fan, no-room}
-use Rattle.laws.specs.Stretches.{filled}
+use Rattle.laws.specs.Stretches.{cleared}
 use Rattle.numbers.specs.Numbers.{Named, at, nothing}
 use Rattle.rows.specs.Triples.{zero-triples}
 use Rattle.net.specs.declared.Counts.{Counts}
@@ -25,10 +25,6 @@ pub record Outcome : Type 0 where
 
 abbrev pub outcome : Said → List ℤ → List ℕ → List ℕ → List ℕ → Outcome
 outcome s h p w v = record { said = s; halfedges = h; positions = p; work = w; visit = v }
-
--- a work buffer that reads zero over n and is unchanged beyond
-abbrev pub cleared : ℕ → List ℕ → List ℕ
-cleared n work = filled 0 0 n work
 
 -- added vertices and half-edges visited
 abbrev pub done-with : ℕ → ℕ → Said

@@ -4,18 +4,15 @@ use mathlib.Core.List.{List}
 use Prim.Native.Nat.{ℕ, _+_}
 use lib.ListN.{length, take, drop}
 use Rattle.answers.specs.Answers.{no-room}
+use Rattle.laws.specs.Stretches.{cleared}
 use Rattle.rows.specs.Triples.{zero-triples}
 use Rattle.net.specs.declared.Counts.{Counts}
 use Rattle.net.specs.Net.{Net, net}
-use Rattle.net.specs.Counts.{vertex-capacity}
+use Rattle.net.specs.Counts.{with-vertices, vertex-capacity}
 use Rattle.net.specs.Sound.{Live, Sound}
 use Rattle.turning.specs.Fan.{Count}
-use Rattle.splitting.specs.Split.{Outcome, cleared, done-with}
+use Rattle.splitting.specs.Split.{Outcome, done-with}
 use Rattle.splitting.specs.Promise.{IsSplit}
-
-abbrev pub with-vertices : Counts → ℕ → Counts
-with-vertices c k =
-    record { halfedges = c .halfedges; vertices = k; normals = c .normals; references = c .references; properties = c .properties; «num_prop» = c .«num_prop» }
 
 -- answer 0, with the added vertices and the steps
 pub record IsDone (c : Counts) (n : Net) (work visit : List ℕ) (o : Outcome) (added steps : ℕ) : Type 0 where

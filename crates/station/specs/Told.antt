@@ -3,10 +3,10 @@
 use mathlib.Core.Bool.{Bool, cond}
 use mathlib.Core.List.{List, [], _∷_}
 use lib.Dec.{eqb}
-use Prim.Native.Nat.{ℕ, zero, suc}
-use lib.IntN.{ℤ, pos, negsuc}
+use Prim.Native.Nat.{ℕ}
+use lib.IntN.{ℤ, pos}
 use lib.Ieee.{binary64, toBits}
-use Rattle.answers.specs.Answers.{Said, Value, whole, float}
+use Rattle.answers.specs.Answers.{Said, Value, whole, float, value, counted}
 use Rattle.net.specs.declared.Counts.{Counts}
 use Rattle.floats.specs.declared.Vec3.{Vec3}
 use Rattle.station.specs.declared.Used.{Used}
@@ -35,21 +35,10 @@ vector-of p = record { x = p .x; y = p .y; z = p .z }
 abbrev pub eligible-of : Bool → Eligible
 eligible-of end-too = cond end-too E.StartAndEnd E.Start
 
--- the value that came at a place
-abbrev pub value : List Value → ℕ → Value
-value [] k = whole (pos 0)
-value (v ∷ vs) zero = v
-value (v ∷ vs) (suc k) = value vs k
-
--- as a number with a sign; as a count; as the bits of a float
+-- a value as a number with a sign; as the bits of a float
 abbrev pub signed : Value → ℤ
 signed (whole z) = z
 signed (float f) = pos 0
-
-abbrev pub counted : Value → ℕ
-counted (whole (pos n)) = n
-counted (whole (negsuc n)) = 0
-counted (float f) = 0
 
 abbrev pub bits : Value → ℕ
 bits (whole z) = 0

@@ -4,7 +4,7 @@ use Prim.Native.Nat.{_+_}
 use native.Mathlib.Omega.{arith}
 use lib.ListN.{drop}
 use Rattle.laws.proofs.Stretches.{length-filled, filled-again}
-use Rattle.splitting.specs.Split.{cleared}
+use Rattle.laws.specs.Stretches.{cleared}
 use Rattle.split.proofs.Stages.{with-work, sound-same}
 use borrow.Author.Needs.{needs}
 use Rattle.split.proofs.split_sound.Statement.{statement}
