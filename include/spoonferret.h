@@ -154,7 +154,7 @@ spoonferret_row_answer spoonferret_collapse_tri(spoonferret_used used, int32_t *
    first's second row paired with the other's third or its third with the other's second. What lies beside them is joined, all four
    fields of the six rows become -1, and a vertex that nothing is left of gets the bits 0x7FF8000000000000 (NaN) for x, y and z: of both,
    the first triangle's three starts; else the vertex where the two edges meet. Where they are not folded nothing changes, and the answer is 0.
-   0: done, or not folded. 1: shape. 3: not sound; row. 4: halfedge is not in 0..used.halfedges. 5: it is dead. */
+   The net is sound afterwards. 0: done, or not folded. 1: shape. 3: not sound; row. 4: halfedge is not in 0..used.halfedges. 5: it is dead. */
 spoonferret_row_answer spoonferret_remove_if_folded(spoonferret_used used, int32_t *halfedges, size_t halfedges_length,
                                                     uint64_t *positions, size_t positions_length, const uint64_t *normals,
                                                     size_t normals_length, const int32_t *references, size_t references_length,
@@ -165,7 +165,7 @@ spoonferret_row_answer spoonferret_remove_if_folded(spoonferret_used used, int32
    first; exchanges the two pairs; and does remove_if_folded at second. The same half-edge twice appends two positions and does
    remove_if_folded.
    spare_halfedges needs 4 * used.halfedges elements, spare_positions 3 * used.vertices.
-   0: done; vertices is used.vertices + 2. 1: shape. 2: a spare is too short. 3: not sound; row. 4: first or second is not in
+   0: done; vertices is used.vertices + 2, and over so many the net is sound. 1: shape. 2: a spare is too short. 3: not sound; row. 4: first or second is not in
    0..used.halfedges. 5: one of them is dead. 6: positions has no two free rows. 7: a walk does not come to its end.
    After 6 and 7 the free rows that had been filled read zero, the others are as they were. After 0, 6 and 7 the spares hold the rows in use as
    they were at the call, over the needed lengths, and are unchanged beyond; after 1 to 5 the spares are as they were. */

@@ -382,8 +382,11 @@ const CLOSING: &str = "
 The Rust has no soundness check: check_net is what it does not do. So check_net is put beside the Rust's split, which reads the same rows \
 unchecked: wanted was at most its time. The check goes by triangle and reads each row once and its partner once; the Rust's split walks every fan.
 
-Our split_pinched_verts begins with that check, counts the copies before it writes, so that a refusal leaves the net as it was, writes the visit list and clears \
-the work buffer; the Rust does none of the four. Wanted, on the torus of 1,000,000 triangles, was at most 2.3 of the Rust's time in order and 1.0 shuffled.
+Our split_pinched_verts begins with that check. Then it walks each fan once, writes the order of the visits into the work buffer and counts the copies, so that a \
+refusal leaves the net as it was. Where the copies find room it goes over that order from front to end: it writes the visit list, and splits a later fan when it \
+comes to its last half-edge. It clears the work buffer before and after. The Rust does the walk alone. Wanted, on the torus of 1,000,000 triangles, was at most 2.3 \
+of the Rust's time in order and 1.0 shuffled. What is neither soundness nor clearing is that walk and the pass over the order. The walk is bound by one read after \
+the other (the pair, then next of it), as the Rust's is; what it has more is the entry of each half-edge, four bytes where the Rust has one.
 
 orbit_owners is for nets that need not be sound, so it has no such check; it clears its work buffer before and after. The Rust's is the build with the feature \
 `parallel`, threshold 0, on one thread. Wanted, on the torus of 1,000,000 triangles, was at most 0.6 of its time.
