@@ -21,7 +21,7 @@ use steps::How;
 use steps::Run;
 
 // Appends a copy of the position of v, where there is room.
-fn append_copy(positions: &mut [u64], capacity: usize, run: Run, v: Vertex) -> Run
+pub fn append_copy(positions: &mut [u64], capacity: usize, run: Run, v: Vertex) -> Run
     requires { ⌜ (vertexNumber v < run .vertices) × ((run .vertices ≤ capacity) × VerticesIn capacity (now positions)) ⌝ }
     ensures { λ r. ⌜ ((h : List ℤ) → middle h (now (positions .exit)) r ≡ append capacity (vertexNumber v) (middle h (now (positions .entry)) run)) × (r .vertices ≤ capacity) ⌝ }
 {

@@ -84,7 +84,7 @@ unfolding rows-from
 from-more n m s d h e = drop-more (width * n) (width * m) s d (omega arith) e
 
 -- an appended row: its own columns; the rows before it; the free rows behind it
-pub row-column : Column → Row → ℤ
+abbrev pub row-column : Column → Row → ℤ
 row-column start r = r .start
 row-column end r = r .end
 row-column pair r = r .pair
@@ -94,7 +94,7 @@ numbers : Row → List ℤ
 numbers r = r .start ∷ r .end ∷ r .pair ∷ r .prop ∷ []
 
 own : (c : Column) (r : Row) → getD (numbers r) (offset c) (pos 0) ≡ row-column c r
-unfolding numbers row-column
+unfolding numbers
 own start r = refl
 own end r = refl
 own pair r = refl

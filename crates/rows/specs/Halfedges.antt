@@ -77,6 +77,17 @@ rows-from h rows = drop (width * h) rows
 unfoldable pub append-row : ℕ → Row → List ℤ → List ℤ
 append-row used r rows = put-at (width * used) (r .start ∷ r .end ∷ r .pair ∷ r .prop ∷ []) rows
 
+-- a triangle put behind `used` rows, without partners: from a to b, on to where h starts, and back; two take the prop of e, the third
+-- that of h
+abbrev row : ℤ → ℤ → ℤ → Row
+row a b p = record { start = a; end = b; pair = none; prop = p }
+
+unfoldable pub append-triangle : ℕ → ℕ → ℕ → ℕ → ℕ → List ℤ → List ℤ
+append-triangle used a b h e rows =
+    append-row (used + 2) (row (startOf rows h) (pos a) (propOf rows h))
+    (append-row (used + 1) (row (pos b) (startOf rows h) (propOf rows e))
+    (append-row used (row (pos a) (pos b) (propOf rows e)) rows))
+
 -- the first n rows of s laid over d; rows a up to b zero
 unfoldable pub over-rows : ℕ → List ℤ → List ℤ → List ℤ
 over-rows n s d = over (width * n) s d

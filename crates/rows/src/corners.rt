@@ -7,7 +7,7 @@ ghost use lib.IntN.{pos};
 ghost use lib.ListN.{length, getD};
 ghost use lib.Signed.{leZ};
 ghost use Rattle.laws.specs.Integers.{eqZ};
-ghost use Rattle.numbers.specs.Numbers.{names, halfedgeNumber, halfedgeNamed, is-named};
+ghost use Rattle.numbers.specs.Numbers.{names, halfedgeNumber, vertexNumber, halfedgeNamed, is-named};
 ghost use Rattle.rows.specs.Halfedges.{startOf, endOf, pairOf, none, is-empty, is-paired, is-started, is-ended, lent-halfedges};
 use crate::halfedges::END;
 use crate::halfedges::PAIR;
@@ -15,6 +15,7 @@ use crate::halfedges::START;
 use crate::halfedges::WIDTH;
 use numbers::Halfedge;
 use numbers::NamedHalfedge;
+use numbers::Vertex;
 
 // The number at i is −1.
 fn none_at(s: &[i32], i: usize) -> bool
@@ -42,7 +43,7 @@ fn is_at(s: &[i32], i: usize, n: usize) -> bool
 }
 
 // The numbers at i of one array and j of another agree.
-fn same_at(s: &[i32], i: usize, t: &[i32], j: usize) -> bool
+pub(crate) fn same_at(s: &[i32], i: usize, t: &[i32], j: usize) -> bool
     requires { ⌜ (i < length (now s)) × (j < length (now t)) ⌝ }
     ensures { λ r. ⌜ r ≡ eqZ (getD (now (s .entry)) i (pos 0)) (getD (now (t .entry)) j (pos 0)) ⌝ }
 {
@@ -146,4 +147,12 @@ pub fn mirrored(tri: &[i32], k: usize, rows: &[i32], h: Halfedge, p: Halfedge) -
     is_at(rows, i + PAIR, h.number())
         & same_at(rows, i + START, tri, WIDTH * k + END)
         & same_at(rows, i + END, tri, WIDTH * k + START)
+}
+
+// Half-edge h starts at v.
+pub fn starts_at(rows: &[i32], h: Halfedge, v: Vertex) -> bool
+    requires { ⌜ (halfedgeNumber h < lent-halfedges (now rows)) × (vertexNumber v < 2 ^ 31) ⌝ }
+    ensures { λ r. ⌜ r ≡ eqZ (startOf (now (rows .entry)) (halfedgeNumber h)) (pos (vertexNumber v)) ⌝ }
+{
+    is_at(rows, WIDTH * h.number() + START, v.number())
 }

@@ -1,10 +1,10 @@
 // Half-edge rows of four numbers each: start, end, pair and prop.
 ghost use mathlib.Core.Path.{_≡_};
-ghost use Prim.Native.Nat.{_<_, _≤_, _^_};
+ghost use Prim.Native.Nat.{_+_, _<_, _≤_, _^_};
 ghost use lib.IntN.{pos};
 ghost use lib.ListN.{length, set};
 ghost use Rattle.numbers.specs.Numbers.{names, halfedgeNumber, vertexNumber, propRowNumber, halfedgeNamed, vertexNamed, propRowNamed};
-ghost use Rattle.rows.specs.Halfedges.{startOf, endOf, pairOf, propOf, start, end, pair, prop, set-column, none, empty-row, lent-halfedges, rows-from, append-row, over-rows, zero-rows, width};
+ghost use Rattle.rows.specs.Halfedges.{startOf, endOf, pairOf, propOf, start, end, pair, prop, set-column, none, empty-row, lent-halfedges, rows-from, append-row, append-triangle, over-rows, zero-rows, width};
 use numbers::Halfedge;
 use numbers::NamedHalfedge;
 use numbers::NamedPropRow;
@@ -141,6 +141,17 @@ pub fn empty_prop(rows: &mut [i32], h: Halfedge)
     put_none(rows, WIDTH * h.number() + PROP);
 }
 
+// Gives h the prop of g, whatever it is.
+pub fn copy_prop(rows: &mut [i32], g: Halfedge, h: Halfedge)
+    requires { ⌜ (halfedgeNumber g < lent-halfedges (now rows)) × (halfedgeNumber h < lent-halfedges (now rows)) ⌝ }
+    ensures { λ _. ⌜ now (rows .exit) ≡ set-column prop (halfedgeNumber h) (propOf (now (rows .entry)) (halfedgeNumber g)) (now (rows .entry)) ⌝ }
+{
+    let i = WIDTH * g.number() + PROP;
+    let j = WIDTH * h.number() + PROP;
+    let p = rows[i];
+    rows[j] = p;
+}
+
 // The part that starts at row h.
 pub fn from_row(rows: &[i32], h: Halfedge) -> &[i32]
     requires { ⌜ halfedgeNumber h < lent-halfedges (now rows) ⌝ }
@@ -173,6 +184,58 @@ pub fn append(rows: &mut [i32], used: usize, row: Row) -> Halfedge
     let i = WIDTH * used;
     put_front(&mut rows[i..], row);
     numbers::halfedge_appended(used)
+}
+
+// Appends three rows without partners: from a to b, on to where h starts, and back. Two take the prop of e, the third that of h.
+pub fn append_triangle(
+    rows: &mut [i32],
+    used: usize,
+    a: Vertex,
+    b: Vertex,
+    h: Halfedge,
+    e: Halfedge,
+)
+    requires { ⌜ ((halfedgeNumber h < used) × (halfedgeNumber e < used)) × ((used + 3 ≤ lent-halfedges (now rows)) × ((vertexNumber a < 2 ^ 31) × (vertexNumber b < 2 ^ 31))) ⌝ }
+    ensures { λ _. ⌜ now (rows .exit) ≡ append-triangle used (vertexNumber a) (vertexNumber b) (halfedgeNumber h) (halfedgeNumber e) (now (rows .entry)) ⌝ }
+{
+    let i = WIDTH * h.number() + START;
+    let j = WIDTH * h.number() + PROP;
+    let k = WIDTH * e.number() + PROP;
+    let outside = rows[i];
+    let third = rows[j];
+    let prop = rows[k];
+    let from = a.number() as i32;
+    let to = b.number() as i32;
+    append(
+        rows,
+        used,
+        Row {
+            start: from,
+            end: to,
+            pair: -1,
+            prop: prop,
+        },
+    );
+    append(
+        rows,
+        used + 1,
+        Row {
+            start: to,
+            end: outside,
+            pair: -1,
+            prop: prop,
+        },
+    );
+    append(
+        rows,
+        used + 2,
+        Row {
+            start: outside,
+            end: from,
+            pair: -1,
+            prop: third,
+        },
+    );
 }
 
 // Lays the first n rows of `from` over `to`: the rows in use to a spare, and back.

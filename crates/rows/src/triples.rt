@@ -3,7 +3,7 @@ ghost use mathlib.Core.Path.{_≡_};
 ghost use Prim.Native.Nat.{_<_, _≤_};
 ghost use lib.ListN.{length};
 ghost use Rattle.numbers.specs.Numbers.{vertexNumber};
-ghost use Rattle.rows.specs.Triples.{lent-triples, triple, put-triple, reference, put-reference, over-triples, zero-triples};
+ghost use Rattle.rows.specs.Triples.{lent-triples, triple, put-triple, reference, put-reference, over-triples, zero-triples, zero-references, same-face};
 use numbers::Vertex;
 
 // The bit patterns of x, y and z.
@@ -119,6 +119,18 @@ pub fn reference_of(rows: &[i32], t: usize) -> Reference
     }
 }
 
+// Triangles t and u have the same face: all three numbers of their references agree.
+pub fn same_reference(rows: &[i32], t: usize, u: usize) -> bool
+    requires { ⌜ (t < lent-triples (now rows)) × (u < lent-triples (now rows)) ⌝ }
+    ensures { λ r. ⌜ r ≡ same-face (reference (now (rows .entry)) t) (reference (now (rows .entry)) u) ⌝ }
+{
+    let i = 3 * t;
+    let j = 3 * u;
+    crate::corners::same_at(rows, i, rows, j)
+        & crate::corners::same_at(rows, i + 1, rows, j + 1)
+        & crate::corners::same_at(rows, i + 2, rows, j + 2)
+}
+
 // Writes a reference at the front of the free rows.
 fn put_reference_front(free: &mut [i32], r: Reference)
     requires { ⌜ 3 ≤ length (now free) ⌝ }
@@ -155,4 +167,12 @@ pub fn zero(rows: &mut [u64], a: usize, b: usize)
     ensures { λ _. ⌜ now (rows .exit) ≡ zero-triples a b (now (rows .entry)) ⌝ }
 {
     stretches::zero_u64(rows, 3 * a, 3 * b);
+}
+
+// Zeroes references a up to b.
+pub fn zero_references(rows: &mut [i32], a: usize, b: usize)
+    requires { ⌜ (a ≤ b) × (b ≤ lent-triples (now rows)) ⌝ }
+    ensures { λ _. ⌜ now (rows .exit) ≡ zero-references a b (now (rows .entry)) ⌝ }
+{
+    stretches::zero_i32(rows, 3 * a, 3 * b);
 }

@@ -185,7 +185,7 @@ fn split_cleared(
 }
 
 // A net with nothing that calls for answer 1, 2 or 3.
-fn split_sound(
+pub fn split_sound(
     rows: &mut [i32],
     positions: &mut [u64],
     work: &mut [u32],

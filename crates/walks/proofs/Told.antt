@@ -54,19 +54,19 @@ not-end prop n e = omega arith
 
 -- what a move writes, and what it leaves
 module _ (v h : ℕ) (rows : List ℤ) where
-  moved-end : h < lent-halfedges rows → endOf (moved v h rows) h ≡ pos v
+  pub moved-end : h < lent-halfedges rows → endOf (moved v h rows) h ≡ pos v
   unfolding moved
   moved-end b = other-column end start (next h) h (pos v) _ (λ e. omega arith) ∙ column-written end h (pos v) rows b
 
-  moved-start : next h < lent-halfedges rows → startOf (moved v h rows) (next h) ≡ pos v
+  pub moved-start : next h < lent-halfedges rows → startOf (moved v h rows) (next h) ≡ pos v
   unfolding moved
   moved-start b = column-written start (next h) (pos v) _ (rw (length-written end h (pos v) rows) b)
 
-  unmoved-end : (g : ℕ) → (g ≡ h → ⊥) → endOf (moved v h rows) g ≡ endOf rows g
+  pub unmoved-end : (g : ℕ) → (g ≡ h → ⊥) → endOf (moved v h rows) g ≡ endOf rows g
   unfolding moved
   unmoved-end g n = other-column end start (next h) g (pos v) _ (λ e. omega arith) ∙ other-row end end h g (pos v) rows n
 
-  unmoved-start : (g : ℕ) → (g ≡ h → ⊥) → startOf (moved v h rows) (next g) ≡ startOf rows (next g)
+  pub unmoved-start : (g : ℕ) → (g ≡ h → ⊥) → startOf (moved v h rows) (next g) ≡ startOf rows (next g)
   unfolding moved
   unmoved-start g n =
       other-row start start (next h) (next g) (pos v) _ (λ e. n (next-inj g h e)) ∙ other-column start end h (next g) (pos v) rows (λ e. omega arith)
@@ -110,7 +110,7 @@ module _ (H N : ℕ) (rows : List ℤ) (thirds : H % 3 ≡ 0) (lent : H ≤ lent
       (λ t. (0, eqb-true here to t))
       (λ t. let r = reach-was to n (move rows here) (move-live l) (rw (t, goes rows (λ g. refl) l) at e) in (suc (r .0), iter-suc (move rows) (r .0) here ∙ r .1))
 
-  reach-soon : (here to : ℕ) → Live H rows here → Reached rows here to → reaches H to rows H here ≡ true
+  pub reach-soon : (here to : ℕ) → Live H rows here → Reached rows here to → reaches H to rows H here ≡ true
   reach-soon here to l r =
       let p = period moving here l in
       let s = soon moving here p (r .0) in
@@ -173,7 +173,7 @@ module _ (H N : ℕ) (rows : List ℤ) (thirds : H % 3 ≡ 0) (lent : H ≤ lent
               inr (λ x. w .0 (way-back q x), (w .1 .0 ∙ unmoved-end v here l g q, w .1 .1 ∙ unmoved-start v here l g q))
 
   -- the walk that writes comes to its end exactly when the one that does not
-  walk-there : (v to n here : ℕ) (l : List ℤ) → Live H rows here → ((g : ℕ) → pairOf l g ≡ pairOf rows g) → walk H v to n l here .there ≡ reaches H to rows n here
+  pub walk-there : (v to n here : ℕ) (l : List ℤ) → Live H rows here → ((g : ℕ) → pairOf l g ≡ pairOf rows g) → walk H v to n l here .there ≡ reaches H to rows n here
   unfolding walk reaches
   walk-there v to zero here l a same = refl
   walk-there v to (suc n) here l a same =

@@ -18,7 +18,7 @@ use soundness::Checked;
 use steps::Run;
 
 // Where the walk goes from h: the partner of its next.
-fn onward(rows: &[i32], halfedges: usize, h: Halfedge) -> NamedHalfedge
+pub fn onward(rows: &[i32], halfedges: usize, h: Halfedge) -> NamedHalfedge
     requires { ⌜ (halfedgeNumber h < halfedges) × InUse halfedges (now rows) ⌝ }
     ensures { λ r. ⌜ halfedgeNamed r ≡ onward halfedges (now (rows .entry)) (halfedgeNumber h) ⌝ }
 {
@@ -50,7 +50,7 @@ fn reaches(rows: &[i32], halfedges: usize, start: Halfedge, end: Halfedge) -> bo
 }
 
 // Sets the end of h and the start of its next, and says where the walk goes.
-fn move_on(rows: &mut [i32], halfedges: usize, v: Vertex, h: Halfedge) -> NamedHalfedge
+pub fn move_on(rows: &mut [i32], halfedges: usize, v: Vertex, h: Halfedge) -> NamedHalfedge
     requires { ⌜ (halfedgeNumber h < halfedges) × ((vertexNumber v < 2 ^ 31) × InUse halfedges (now rows)) ⌝ }
     ensures { λ r. ⌜ (halfedgeNamed r ≡ onward halfedges (moved (vertexNumber v) (halfedgeNumber h) (now (rows .entry))) (halfedgeNumber h)) × (now (rows .exit) ≡ moved (vertexNumber v) (halfedgeNumber h) (now (rows .entry))) ⌝ }
 {

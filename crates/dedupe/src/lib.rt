@@ -1,0 +1,1 @@
+// Deduping an edge: the step of dedupe_edge, and its entry, which has a spare.

@@ -1,0 +1,343 @@
+-- Two triangles inserted where the search about the end has met another half-edge from the same start: there is no room, or the rows are in
+-- order afterwards.
+use mathlib.Core.Path.{_≡_, refl, sym, ap, _∙_, subst}
+use mathlib.Core.Bool.{true, false, cond}
+use mathlib.Core.List.{List}
+use mathlib.Core.Logic.{_⊎_, inl, inr, ⊎-elim}
+use Prim.Native.Nat.{ℕ, _+_, _%_, _/_, _<_, _≤_}
+use native.Mathlib.Omega.{arith}
+use borrow.Author.Tests.{leb-false}
+use lib.Dec.{leb}
+use lib.IntN.{ℤ, pos}
+use lib.ListN.{length}
+use Rattle.laws.proofs.Tests.{by-test}
+use Rattle.numbers.specs.Numbers.{at, names}
+use Rattle.numbers.specs.Next.{next}
+use Rattle.numbers.proofs.Names.{names-at}
+use Rattle.numbers.proofs.NextLaws.{next-round, next-inj}
+use Rattle.rows.specs.Halfedges.{pair, startOf, endOf, pairOf, lent-halfedges, append-triangle}
+use Rattle.rows.specs.Triples.{triple, put-triple, reference, put-reference}
+use Rattle.net.specs.Sound.{partner, LiveRow, InOrder, Live}
+use Rattle.net.proofs.Sound.{live-row, live-row-live, next-live, pair-involution}
+use Rattle.pairing.specs.Pairing.{paired}
+use Rattle.steps.specs.Steps.{middle, running, NoRoom, begin}
+use Rattle.walks.specs.Walk.{walk, update}
+use Rattle.turning.specs.Fan.{Turning}
+use Rattle.turning.proofs.Orbit.{reach-trans, reach-sym, live-reach}
+use Rattle.walks.specs.Way.{move, Reached}
+use Rattle.walks.proofs.Kept.{length-walk, other-walk}
+use Rattle.walks.proofs.Told.{AsTold, moving, move-live, walk-there, walk-told, reach-soon}
+use Rattle.loops.specs.Loops.{append}
+use Rattle.loopsound.proofs.Ways.{reached-end, way-end}
+use Rattle.growth.specs.declared.Limits.{Limits}
+use Rattle.growth.specs.Growth.{Growing, growing, Fits, halted, inside, add, join, face, beside, copy-of}
+use Rattle.growth.proofs.Triangle.{triangle-before}
+use Rattle.dedupe.specs.Dedupe.{Stood, stood, insert-at, insert, pair-new}
+use Rattle.dedupesound.specs.Inserts.{Inserts}
+use Rattle.dedupesound.proofs.Inserted.{inserted, live-after}
+use Rattle.dedupesound.proofs.Rows.{two-triangles, same-length, second-partner, inserts}
+use Rattle.dedupesound.proofs.Sought.{goes-on}
+use Rattle.dedupesound.proofs.Steps.{Went, lent}
+
+-- a triangle beside h: no room, or the rows with it
+module _ (l : Limits) (a b h e k : ℕ) (rows : List ℤ) (p : List ℕ) (n : ℕ) (no' : List ℕ) (re : List ℤ) where
+  abbrev with-it : List ℤ
+  with-it = append-triangle k a b h e rows
+
+  abbrev pub normals-then : List ℕ
+  normals-then = cond (l .normals) (put-triple (k / 3) (triple no' (h / 3)) no') no'
+
+  abbrev pub references-then : List ℤ
+  references-then = cond (l .references) (put-reference (k / 3) (reference re (h / 3)) re) re
+
+  pub beside-full : leb (l .halfedges) k ≡ true → beside l a b h e (growing (begin rows p n) k no' re) ≡ growing (middle rows p (running n NoRoom)) k no' re
+  unfolding beside add join face
+  beside-full t = rw t
+
+  pub beside-goes : leb (l .halfedges) k ≡ false → {q : ℕ} → names (pairOf with-it h) (k + 3) ≡ at q →
+      beside l a b h e (growing (begin rows p n) k no' re) ≡ growing (begin (paired (k + 1) h (paired (k + 2) q with-it)) p n) (k + 3) normals-then references-then
+  unfolding beside add join face
+  beside-goes t z = rw (t, z)
+
+beside-halted : (l : Limits) (a b h e : ℕ) (w : Growing) → halted w ≡ true → beside l a b h e w ≡ w
+unfolding beside add join face
+beside-halted l a b h e w t = rw (t, t, t)
+
+pair-new-halted : (k : ℕ) (w : Growing) → halted w ≡ true → pair-new k w ≡ w
+unfolding pair-new
+pair-new-halted k w t = rw t
+
+-- two triangles inserted at c, which the search about the end has met
+module _ (l : Limits) (e v least : ℕ) (w : Growing) (g : Went l e v least w) (is-v : endOf (g .rows) e ≡ pos v) (c : ℕ) (c-not-e : c ≡ e → ⊥) (reached : Reached (g .rows) (move (g .rows) e) c) where
+  abbrev H : ℕ
+  H = g .H
+
+  abbrev N : ℕ
+  N = g .N
+
+  abbrev rows : List ℤ
+  rows = g .rows
+
+  abbrev thirds : H % 3 ≡ 0
+  thirds = g .fits .thirds
+
+  abbrev long : H ≤ lent-halfedges rows
+  long = lent l e v least w g
+
+  abbrev row : {h : ℕ} → Live H rows h → LiveRow H N rows h
+  row x = live-row H N rows thirds (g .in-order) x
+
+  abbrev on : {h : ℕ} → Live H rows h → Live H rows (next h)
+  on x = next-live H N rows thirds (g .in-order) x
+
+  abbrev other : ℕ
+  other = move rows e
+
+  lo : Live H rows other
+  lo = move-live H N rows thirds long (g .in-order) (g .e-live)
+
+  lc : Live H rows c
+  lc = live-reach (moving H N rows thirds long (g .in-order)) lo reached
+
+  abbrev here : ℕ
+  here = move rows c
+
+  lh : Live H rows here
+  lh = move-live H N rows thirds long (g .in-order) lc
+
+  T : Turning H (Live H rows) (move rows)
+  T = moving H N rows thirds long (g .in-order)
+
+  apart : here ≡ other → ⊥
+  apart z = c-not-e (T .inj c e lc (g .e-live) z)
+
+  other-end : endOf rows other ≡ endOf rows e
+  other-end = reached-end H N rows thirds long (g .in-order) (g .e-live) (1, refl)
+
+  c-end : endOf rows c ≡ endOf rows e
+  c-end = reached-end H N rows thirds long (g .in-order) lo reached ∙ other-end
+
+  here-end : endOf rows here ≡ endOf rows e
+  here-end = reached-end H N rows thirds long (g .in-order) lc (1, refl) ∙ c-end
+
+  -- one ends at that vertex, the other starts there
+  differ : {x y : ℕ} → Live H rows x → endOf rows x ≡ endOf rows e → startOf rows y ≡ endOf rows e → x ≡ y → ⊥
+  differ {x} lx a b z = row lx .apart-12 (ap (startOf rows) z ∙ b ∙ sym a ∙ row lx .joined)
+
+  c1-start : startOf rows (next c) ≡ endOf rows e
+  c1-start = sym (row lc .joined) ∙ c-end
+
+  e1-start : startOf rows (next e) ≡ endOf rows e
+  e1-start = sym (row (g .e-live) .joined)
+
+  -- the walk from here to other
+  abbrev rows1 : List ℤ
+  rows1 = walk H N other H rows here .rows
+
+  there : walk H N other H rows here .there ≡ true
+  there =
+      walk-there H N rows thirds long (g .in-order) N other H here rows lh (λ k. refl)
+      ∙ reach-soon H N rows thirds long (g .in-order) here other lh (reach-trans (move rows) (reach-sym T lc (1, refl)) (reach-sym T lo reached))
+
+  told : (k : ℕ) → AsTold H N rows thirds long (g .in-order) N here other rows rows1 k
+  told = walk-told H N rows thirds long (g .in-order) N here other rows lh (λ k. refl) refl there .1
+
+  pairs1 : (k : ℕ) → pairOf rows1 k ≡ pairOf rows k
+  pairs1 k = other-walk H N other H rows here (lh .in-use) pair (λ z. omega arith) (λ z. omega arith) k
+
+  len1 : length rows1 ≡ length rows
+  len1 = length-walk H N other H rows here (lh .in-use)
+
+  -- a row that ends at that vertex keeps its start
+  start1 : {x : ℕ} → Live H rows x → endOf rows x ≡ endOf rows e → startOf rows1 x ≡ startOf rows x
+  start1 {x} lx a =
+      ap (startOf rows1) (sym (next-round x))
+      ∙ ⊎-elim (λ u. absurd (differ lx a (ap (startOf rows) (sym (next-round x)) ∙ sym (row (on (on lx)) .joined) ∙ way-end H N rows thirds long (g .in-order) lh (u .0) ∙ here-end) refl)) (λ u. u .1 .1) (told (next (next x)))
+      ∙ ap (startOf rows) (next-round x)
+
+  abbrev pos1 : List ℕ
+  pos1 = put-triple N (triple (g .positions) v) (g .positions)
+
+  abbrev copied-once : Growing
+  copied-once = growing (begin rows pos1 (N + 1)) H (g .normals) (g .references)
+
+  abbrev walked-once : Growing
+  walked-once = growing (begin rows1 pos1 (N + 1)) H (g .normals) (g .references)
+
+  c1 : partner rows here ≡ next c
+  c1 = pair-involution H N rows thirds (g .in-order) (on lc)
+
+  e1 : partner rows other ≡ next e
+  e1 = pair-involution H N rows thirds (g .in-order) (on (g .e-live))
+
+  update-goes : inside (update H N here other) copied-once ≡ walked-once
+  unfolding update
+  update-goes = rw there
+
+  -- no room; or rows in order, and the place where the search then stands is live
+  abbrev pub Stands : Stood → Type 0
+  Stands s = (s .growing .middle .run .how ≡ NoRoom) ⊎ ((n : Went l e v least (s .growing)) × Live (n .H) (n .rows) (s .place))
+
+  abbrev now : Growing
+  now = growing (begin rows (g .positions) N) H (g .normals) (g .references)
+
+  vertex-full : leb (l .vertices) N ≡ true → insert l v c e now .growing .middle .run .how ≡ NoRoom
+  unfolding insert copy-of append
+  vertex-full t = rw t
+
+  module _ (t : leb (l .vertices) N ≡ false) where
+    insert-is : insert l v c e now ≡ stood (insert-at l v N here other e copied-once) here
+    unfolding insert copy-of append
+    insert-is = rw (t, goes-on H N rows thirds long (g .in-order) lc, goes-on H N rows thirds long (g .in-order) (g .e-live))
+
+    insert-at-is : insert-at l v N here other e copied-once ≡ pair-new H (beside l N v other (next e) (beside l v N here (next e) walked-once))
+    unfolding insert-at
+    insert-at-is = rw update-goes
+
+    -- the first triangle
+    none-first : leb (l .halfedges) H ≡ true → insert l v c e now .growing .middle .run .how ≡ NoRoom
+    none-first u =
+        let w1 = growing (middle rows1 pos1 (running (N + 1) NoRoom)) H (g .normals) (g .references) in
+        let a = beside-full l v N here (next e) H rows1 pos1 (N + 1) (g .normals) (g .references) u in
+        rw (insert-is, insert-at-is, a, beside-halted l N v other (next e) w1 refl, pair-new-halted H w1 refl)
+
+    module _ (u : leb (l .halfedges) H ≡ false) where
+      room1 : H + 3 ≤ l .halfedges
+      room1 = let f = g .fits in let b = leb-false (l .halfedges) H u in omega (arith, f .thirds, f .capacity-thirds)
+
+      lent1 : H + 3 ≤ lent-halfedges rows1
+      lent1 = let f = g .fits in rw len1 (omega (arith, f .lent, room1))
+
+      abbrev A1 : List ℤ
+      A1 = append-triangle H v N here (next e) rows1
+
+      partner1 : names (pairOf A1 here) (H + 3) ≡ at (next c)
+      partner1 =
+          let b = on lc .in-use in
+          names-at (pairOf A1 here) (H + 3) (next c) (triangle-before H v N here (next e) rows1 lent1 pair here (lh .in-use) ∙ pairs1 here ∙ lh .paired ∙ ap pos c1) (omega arith)
+
+      abbrev P2 : List ℤ
+      P2 = paired (H + 1) here (paired (H + 2) (next c) A1)
+
+      abbrev n1 : List ℕ
+      n1 = normals-then l v N here (next e) H rows1 pos1 (N + 1) (g .normals) (g .references)
+
+      abbrev f1 : List ℤ
+      f1 = references-then l v N here (next e) H rows1 pos1 (N + 1) (g .normals) (g .references)
+
+      first-is : beside l v N here (next e) walked-once ≡ growing (begin P2 pos1 (N + 1)) (H + 3) n1 f1
+      first-is = beside-goes l v N here (next e) H rows1 pos1 (N + 1) (g .normals) (g .references) u partner1
+
+      -- the second
+      none-second : leb (l .halfedges) (H + 3) ≡ true → insert l v c e now .growing .middle .run .how ≡ NoRoom
+      none-second y =
+          let w2 = growing (middle P2 pos1 (running (N + 1) NoRoom)) (H + 3) n1 f1 in
+          let a = beside-full l N v other (next e) (H + 3) P2 pos1 (N + 1) n1 f1 y in
+          rw (insert-is, insert-at-is, first-is, a, pair-new-halted H w2 refl)
+
+      module _ (y : leb (l .halfedges) (H + 3) ≡ false) where
+        room2 : H + 6 ≤ l .halfedges
+        room2 = let f = g .fits in let b = leb-false (l .halfedges) (H + 3) y in omega (arith, f .thirds, f .capacity-thirds)
+
+        lent2 : H + 6 ≤ lent-halfedges rows1
+        lent2 = let f = g .fits in rw len1 (omega (arith, f .lent, room2))
+
+        bh : here < H
+        bh = lh .in-use
+
+        bo : other < H
+        bo = lo .in-use
+
+        bc : next c < H
+        bc = on lc .in-use
+
+        be : next e < H
+        be = on (g .e-live) .in-use
+
+        here-e1 : here ≡ next e → ⊥
+        here-e1 z = differ lh here-end e1-start z
+
+        c1-here : next c ≡ here → ⊥
+        c1-here z = differ lh here-end c1-start (sym z)
+
+        c1-other : next c ≡ other → ⊥
+        c1-other z = differ lo other-end c1-start (sym z)
+
+        c1-e1 : next c ≡ next e → ⊥
+        c1-e1 z = c-not-e (next-inj c e z)
+
+        e1-other : next e ≡ other → ⊥
+        e1-other z = differ lo other-end e1-start (sym z)
+
+        abbrev A2 : List ℤ
+        A2 = append-triangle (H + 3) N v other (next e) P2
+
+        partner2 : names (pairOf A2 other) (H + 3 + 3) ≡ at (next e)
+        partner2 =
+            names-at (pairOf A2 other) (H + 3 + 3) (next e)
+            (second-partner H v N here other (next c) (next e) rows1 lent2 bh bo bc be apart here-e1 c1-here c1-other c1-e1 e1-other ∙ pairs1 other ∙ lo .paired ∙ ap pos e1)
+            (omega (arith, be))
+
+        abbrev last : List ℤ
+        last = two-triangles H v N here other (next c) (next e) rows1 lent2 bh bo bc be apart here-e1 c1-here c1-other c1-e1 e1-other
+
+        abbrev n2 : List ℕ
+        n2 = normals-then l N v other (next e) (H + 3) P2 pos1 (N + 1) n1 f1
+
+        abbrev f2 : List ℤ
+        f2 = references-then l N v other (next e) (H + 3) P2 pos1 (N + 1) n1 f1
+
+        all-is : insert l v c e now .growing ≡ growing (begin last pos1 (N + 1)) (H + 3 + 3) n2 f2
+        unfolding pair-new
+        all-is = rw (insert-is, insert-at-is, first-is, beside-goes l N v other (next e) (H + 3) P2 pos1 (N + 1) n1 f1 y partner2)
+
+        six : H + 3 + 3 ≡ H + 6
+        six = omega arith
+
+        last-length : length last ≡ length rows
+        last-length = same-length H v N here other (next c) (next e) rows1 lent2 bh bo bc be apart here-e1 c1-here c1-other c1-e1 e1-other ∙ len1
+
+        in-words : Inserts H N rows rows1 last (endOf rows e) here other (next c) (next e)
+        in-words = inserts H v N here other (next c) (next e) rows1 lent2 bh bo bc be apart here-e1 c1-here c1-other c1-e1 e1-other rows (endOf rows e) is-v (start1 lh here-end) (start1 lo other-end) pairs1
+
+        lives : {h : ℕ} → Live H rows h → Live (H + 3 + 3) last h
+        lives {h} x =
+            let r = live-after H N rows thirds long (g .in-order) e c (g .e-live) lc c-not-e reached rows1 last told in-words h x in
+            let b = x .in-use in
+            live-row-live (H + 3 + 3) last {N = N + 1} {h = h} (omega arith) (rw six r)
+
+        pub inserted-goes : (n : Went l e v least (insert l v c e now .growing)) × Live (n .H) (n .rows) here
+        inserted-goes = (
+          record {
+            rows = last;
+            positions = pos1;
+            N = N + 1;
+            H = H + 3 + 3;
+            normals = n2;
+            references = f2;
+            is = all-is;
+            fits = let f = g .fits in record {
+              thirds = omega (arith, f .thirds);
+              capacity-thirds = f .capacity-thirds;
+              within-capacity = omega (arith, room2);
+              lent = rw last-length (f .lent);
+              few = f .few;
+            };
+            vertices-in = let b = leb-false (l .vertices) N t in omega arith;
+            in-order = rw six (inserted H N rows thirds long (g .in-order) e c (g .e-live) lc c-not-e reached rows1 last told in-words);
+            e-live = lives (g .e-live);
+            v-in = let b = g .v-in in omega arith;
+            above = let b = g .above in omega arith;
+          },
+          lives lh,
+        )
+
+  pub insert-stands : Stands (insert l v c e w)
+  insert-stands =
+      rw (g .is) (by-test (leb (l .vertices) N) (λ t. inl (vertex-full t)) (λ t.
+      by-test (leb (l .halfedges) H) (λ u. inl (none-first t u)) (λ u.
+      by-test (leb (l .halfedges) (H + 3)) (λ y. inl (none-second t u y)) (λ y. inr (stands-there t u y)))))
+    where
+      stands-there : (t : leb (l .vertices) N ≡ false) (u : leb (l .halfedges) H ≡ false) (y : leb (l .halfedges) (H + 3) ≡ false) →
+          (n : Went l e v least (insert l v c e now .growing)) × Live (n .H) (n .rows) (insert l v c e now .place)
+      stands-there t u y = let z : insert l v c e now .place ≡ here = ap (λ (s : Stood). s .place) (insert-is t) in rw z (inserted-goes t u y)

@@ -1,0 +1,163 @@
+-- dedupe_edges' rounds on rows in order: there is no room, or the rows are in order afterwards. They never stop.
+use mathlib.Core.Path.{_≡_, refl, sym, ap, _∙_, subst}
+use mathlib.Core.Bool.{Bool, true, false, cond, true≢false, _&&_, _||_, not}
+use mathlib.Core.List.{List, [], _∷_, _++_}
+use mathlib.Core.Logic.{_⊎_, inl, inr, ⊎-elim}
+use Prim.Native.Nat.{ℕ, zero, suc, _%_, _<_, _≤_}
+use native.Mathlib.Nat.{le-refl}
+use native.Mathlib.Omega.{arith}
+use lib.Dec.{eqb}
+use lib.IntN.{ℤ, pos}
+use lib.ListN.{take}
+use Rattle.laws.specs.Integers.{eqZ}
+use Rattle.laws.proofs.Tests.{by-test, and3}
+use Rattle.numbers.specs.Numbers.{Named, at, nothing, names, named-or}
+use Rattle.numbers.specs.Next.{next}
+use Rattle.numbers.proofs.Names.{names-below, names-is}
+use Rattle.numbers.proofs.NextLaws.{next-in}
+use Rattle.rows.specs.Halfedges.{endOf, pairOf, is-started, is-ended}
+use Rattle.net.specs.Sound.{end-vertex, InOrder, Live}
+use Rattle.net.proofs.Sound.{live-row}
+use Rattle.steps.specs.Steps.{is-refused, NoRoom, begin}
+use Rattle.growth.specs.declared.Limits.{Limits}
+use Rattle.growth.specs.Growth.{Growing, growing, rows-of, Fits, halted}
+use Rattle.dedupe.specs.Dedupe.{dedupe-at}
+use Rattle.searches.specs.Duplicates.{turns, fan, is-duplicate, those, is-in, Search, search-row, search-rows, again, still}
+use Rattle.rounds.specs.Rounds.{each, no-entry, to-do, rounds}
+use Rattle.dedupesound.proofs.Steps.{Went, Out, no-room-halts}
+use Rattle.dedupesound.proofs.Dedupes.{dedupe-goes}
+
+-- every entry is below H
+abbrev pub Below : ℕ → List ℕ → Type 0
+Below H [] = _≡_ {A = ℕ} 0 0
+Below H (x ∷ xs) = (x < H) × Below H xs
+
+below-append : (H : ℕ) (xs ys : List ℕ) → Below H xs → Below H ys → Below H (xs ++ ys)
+below-append H [] ys a b = b
+below-append H (x ∷ xs) ys a b = (a .0, below-append H xs ys (a .1) b)
+
+below-take : (H n : ℕ) (xs : List ℕ) → Below H xs → Below H (take n xs)
+below-take H zero xs a = refl
+below-take H (suc n) [] a = refl
+below-take H (suc n) (x ∷ xs) a = (a .0, below-take H n xs (a .1))
+
+-- what a round lists is below the half-edges in use
+module _ (H N : ℕ) (rows : List ℤ) (thirds : H % 3 ≡ 0) where
+  turns-below : (home n c : ℕ) → Below H (turns H rows home n c)
+  unfolding turns
+  turns-below home zero c = refl
+  turns-below home (suc n) c = go (names (pairOf rows c) H) refl (λ p. turns-below home n (next p))
+    where
+      go : (w : Named) → names (pairOf rows c) H ≡ w → ((p : ℕ) → Below H (turns H rows home n (next p))) →
+          Below H (named-or [] w (λ p. cond (eqb (next p) home) [] (next p ∷ turns H rows home n (next p))))
+      go nothing e more = refl
+      go (at p) e more = by-test (eqb (next p) home) (λ t. rw t refl) (λ t. rw t (next-in p H (names-below (pairOf rows c) H e) thirds, more p))
+
+  those-below : (w cs : List ℕ) → Below H cs → Below H (those N rows w cs)
+  unfolding those
+  those-below w [] a = refl
+  those-below w (c ∷ cs) a = by-test (is-duplicate N rows w c) (λ t. rw t (a .0, those-below w cs (a .1))) (λ t. rw t (those-below w cs (a .1)))
+
+  row-below : (i : ℕ) (s : Search) → i < H → Below H (s .list) → Below H (search-row H N rows i s .list)
+  unfolding search-row
+  row-below i s b a =
+      by-test (is-in i (s .seen) || not (is-started rows i && is-ended rows i))
+      (λ t. rw t a)
+      (λ t. rw t (below-append H (s .list) _ a (those-below (fan H rows i) (fan H rows i) (b, turns-below i H i))))
+
+  rows-below : (i : ℕ) → i ≤ H → Below H (search-rows H N rows i .list)
+  unfolding search-rows
+  rows-below zero b = refl
+  rows-below (suc i) b = row-below i (search-rows H N rows i) (omega arith) (rows-below i (omega arith))
+
+  -- a half-edge that is still duplicated is live
+  still-live : (d : ℕ) → d < H → still H rows d ≡ true → Live H rows d
+  unfolding still again
+  still-live d b t = go (names (pairOf rows d) H) refl (and3 (is-started rows d) (is-ended rows d) _ t .2)
+    where
+      go : (w : Named) → names (pairOf rows d) H ≡ w →
+          named-or false w (λ p. cond (eqb (next p) d) false (cond (eqZ (endOf rows (next p)) (endOf rows d)) true (again H rows d H (next p)))) ≡ true → Live H rows d
+      go nothing e z = absurd (true≢false (sym z))
+      go (at p) e z = record { in-use = b; paired = let y = names-is (pairOf rows d) H e in rw y }
+
+-- rows in order, at least so many, and the steps go on
+pub record Ordered (l : Limits) (least : ℕ) (w : Growing) : Type 0 where
+  pub rows : List ℤ
+  pub positions : List ℕ
+  pub N : ℕ
+  pub H : ℕ
+  pub normals : List ℕ
+  pub references : List ℤ
+  pub is : w ≡ growing (begin rows positions N) H normals references
+  pub fits : Fits l H rows
+  pub vertices-in : N ≤ l .vertices
+  pub in-order : (h : ℕ) → h < H → InOrder H N rows h
+  pub above : least ≤ H
+
+abbrev pub Left : Limits → ℕ → Growing → Type 0
+Left l least w = (w .middle .run .how ≡ NoRoom) ⊎ Ordered l least w
+
+forget : {l : Limits} {e v least : ℕ} {w : Growing} → Out l e v least w → Left l least w
+forget (inl z) = inl z
+forget (inr g) = inr (record { rows = g .rows; positions = g .positions; N = g .N; H = g .H; normals = g .normals; references = g .references; is = g .is; fits = g .fits; vertices-in = g .vertices-in; in-order = g .in-order; above = g .above })
+
+module _ (l : Limits) where
+  one-goes : (least d : ℕ) (w : Growing) → d < least → Left l least w → Left l least (cond (halted w) w (cond (still (w .count) (rows-of w) d) (dedupe-at l d w) w))
+  one-goes least d w b (inl z) = rw (no-room-halts w z) (inl z)
+  one-goes least d w b (inr o) = subst (λ (x : Growing). Left l least (cond (halted x) x (cond (still (x .count) (rows-of x) d) (dedupe-at l d x) x))) (sym (o .is)) go
+    where
+      now : Growing
+      now = growing (begin (o .rows) (o .positions) (o .N)) (o .H) (o .normals) (o .references)
+
+      went : Live (o .H) (o .rows) d → Went l d (end-vertex (o .rows) d) least w
+      went k = record {
+        rows = o .rows;
+        positions = o .positions;
+        N = o .N;
+        H = o .H;
+        normals = o .normals;
+        references = o .references;
+        is = o .is;
+        fits = o .fits;
+        vertices-in = o .vertices-in;
+        in-order = o .in-order;
+        e-live = k;
+        v-in = live-row (o .H) (o .N) (o .rows) (o .fits .thirds) (o .in-order) k .end-in;
+        above = o .above;
+      }
+
+      done : Live (o .H) (o .rows) d → Left l least (dedupe-at l d w)
+      done k = forget (dedupe-goes l d (end-vertex (o .rows) d) least w (went k) (live-row (o .H) (o .N) (o .rows) (o .fits .thirds) (o .in-order) k .end-is))
+
+      go : Left l least (cond (still (o .H) (o .rows) d) (dedupe-at l d (growing (begin (o .rows) (o .positions) (o .N)) (o .H) (o .normals) (o .references))) (growing (begin (o .rows) (o .positions) (o .N)) (o .H) (o .normals) (o .references)))
+      go =
+          by-test (still (o .H) (o .rows) d)
+          (λ t. rw t (subst (λ (x : Growing). Left l least (dedupe-at l d x)) (o .is) (done (still-live (o .H) (o .N) (o .rows) (o .fits .thirds) d (let a = o .above in omega arith) t))))
+          (λ t. rw t (subst (Left l least) (o .is) (inr o)))
+
+  each-goes : (least : ℕ) (ds : List ℕ) (w : Growing) → Below least ds → Left l least w → Left l least (each l ds w)
+  unfolding each
+  each-goes least [] w b o = o
+  each-goes least (d ∷ ds) w b o = each-goes least ds _ (b .1) (one-goes least d w (b .0) o)
+
+  raise : {least more : ℕ} {w : Growing} → least ≤ more → Left l more w → Left l least w
+  raise b (inl z) = inl z
+  raise b (inr o) = inr (record { rows = o .rows; positions = o .positions; N = o .N; H = o .H; normals = o .normals; references = o .references; is = o .is; fits = o .fits; vertices-in = o .vertices-in; in-order = o .in-order; above = let a = o .above in omega arith })
+
+  pub rounds-goes : (least n : ℕ) (w : Growing) → Left l least w → Left l least (rounds l n w .growing)
+  unfolding rounds
+  rounds-goes least zero w o = o
+  rounds-goes least (suc n) w (inl z) = rw (no-room-halts w z) (inl z)
+  rounds-goes least (suc n) w (inr o) =
+      by-test (halted w)
+      (λ s. rw s (inr o))
+      (λ s.
+      by-test (no-entry (to-do l w))
+      (λ t. rw (s, t) (inr o))
+      (λ t. rw (s, t) (rounds-goes least n (each l (to-do l w) w) (raise (o .above) (each-goes (o .H) (to-do l w) w listed (inr again-there))))))
+    where
+      listed : Below (o .H) (to-do l w)
+      listed = subst (λ (x : Growing). Below (o .H) (to-do l x)) (sym (o .is)) (below-take (o .H) (l .halfedges) _ (rows-below (o .H) (o .N) (o .rows) (o .fits .thirds) (o .H) (le-refl _)))
+
+      again-there : Ordered l (o .H) w
+      again-there = record { rows = o .rows; positions = o .positions; N = o .N; H = o .H; normals = o .normals; references = o .references; is = o .is; fits = o .fits; vertices-in = o .vertices-in; in-order = o .in-order; above = le-refl _ }
