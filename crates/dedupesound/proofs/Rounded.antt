@@ -23,7 +23,7 @@ use Rattle.growth.specs.declared.Limits.{Limits}
 use Rattle.growth.specs.Growth.{Growing, growing, rows-of, Fits, halted}
 use Rattle.dedupe.specs.Dedupe.{dedupe-at}
 use Rattle.searches.specs.Duplicates.{turns, fan, is-duplicate, those, is-in, Search, search-row, search-rows, again, still}
-use Rattle.rounds.specs.Rounds.{each, no-entry, to-do, rounds}
+use Rattle.rounds.specs.Rounds.{fix, each, no-entry, to-do, rounds}
 use Rattle.dedupesound.proofs.Steps.{Went, Out, no-room-halts}
 use Rattle.dedupesound.proofs.Dedupes.{dedupe-goes}
 
@@ -102,7 +102,8 @@ forget (inl z) = inl z
 forget (inr g) = inr (record { rows = g .rows; positions = g .positions; N = g .N; H = g .H; normals = g .normals; references = g .references; is = g .is; fits = g .fits; vertices-in = g .vertices-in; in-order = g .in-order; above = g .above })
 
 module _ (l : Limits) where
-  one-goes : (least d : ℕ) (w : Growing) → d < least → Left l least w → Left l least (cond (halted w) w (cond (still (w .count) (rows-of w) d) (dedupe-at l d w) w))
+  one-goes : (least d : ℕ) (w : Growing) → d < least → Left l least w → Left l least (fix l d w)
+  unfolding fix
   one-goes least d w b (inl z) = rw (no-room-halts w z) (inl z)
   one-goes least d w b (inr o) = subst (λ (x : Growing). Left l least (cond (halted x) x (cond (still (x .count) (rows-of x) d) (dedupe-at l d x) x))) (sym (o .is)) go
     where
