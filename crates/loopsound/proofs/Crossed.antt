@@ -14,17 +14,19 @@ use Rattle.laws.specs.Integers.{eqZ}
 use Rattle.laws.proofs.Integers.{eqZ-yes, eqZ-no, pos-inj}
 use Rattle.numbers.specs.Next.{next}
 use Rattle.numbers.proofs.NextLaws.{next-round}
-use Rattle.rows.specs.Halfedges.{start, end, pair, startOf, endOf, pairOf, lent-halfedges}
-use Rattle.net.specs.Sound.{end-vertex, partner, Empty, LiveRow, InOrder, Live}
+use Rattle.rows.specs.Halfedges.{start, end, pair, prop, startOf, endOf, pairOf, propOf, lent-halfedges, rows-from}
+use Rattle.rows.specs.Triples.{triple}
+use Rattle.net.specs.Sound.{start-vertex, end-vertex, partner, Empty, LiveRow, InOrder, Live}
 use Rattle.net.proofs.Sound.{empty-not-live, live-row-live, live-row, next-live, partner-live, pair-involution, partner-inj, not-own-partner}
 use Rattle.pairing.specs.Pairing.{PairedUp, paired}
 use Rattle.pairing.proofs.Told.{paired-up}
 use Rattle.walks.specs.Way.{Reached, OnWay}
 use Rattle.walks.proofs.Told.{AsTold}
+use Rattle.loopsound.specs.Formed.{Crossed, Copied}
 use Rattle.loopsound.proofs.Ways.{before-end, reached-end, way-live, way-end, way-not-end, way-first, way-step, way-unstep, way-not-before, way-last}
 
--- what they are: in order over N vertices, b live, and none came or went
-pub record Crossed (H N b : ℕ) (rows after : List ℤ) : Type 0 where
+-- what they are besides: in order over N vertices, b live, and none came or went
+pub record StillInOrder (H N b : ℕ) (rows after : List ℤ) : Type 0 where
   pub in-order : (h : ℕ) → h < H → InOrder H N after h
   pub live : Live H after b
   pub same-length : length after ≡ length rows
@@ -34,7 +36,8 @@ module _ (H N : ℕ) (rows : List ℤ) (thirds : H % 3 ≡ 0) (lent : H ≤ lent
     (r1 : Reached rows (partner rows a) (partner rows b)) (r2 : Reached rows b a)
     (told1 : (g : ℕ) → AsTold H N rows thirds lent in-order N (partner rows a) (partner rows b) rows rows1 g)
     (told2 : (g : ℕ) → AsTold H N rows thirds lent in-order (N + 1) b a rows1 rows2 g)
-    (pairs2 : (g : ℕ) → pairOf rows2 g ≡ pairOf rows g) (length2 : length rows2 ≡ length rows) where
+    (pairs2 : (g : ℕ) → pairOf rows2 g ≡ pairOf rows g) (props2 : (g : ℕ) → propOf rows2 g ≡ propOf rows g)
+    (behind2 : rows-from H rows2 ≡ rows-from H rows) (length2 : length rows2 ≡ length rows) where
   abbrev p : ℕ
   p = partner rows a
 
@@ -319,9 +322,48 @@ module _ (H N : ℕ) (rows : List ℤ) (thirds : H % 3 ≡ 0) (lent : H ≤ lent
       })
       go (inr r) = inr (live-after h (live-row-live H rows c r))
 
-  pub crossed : Crossed H (N + 2) b rows rows3
-  crossed = record {
+  pub still-in-order : StillInOrder H (N + 2) b rows rows3
+  still-in-order = record {
     in-order = in-order-after;
     live = record { in-use = lb .in-use; paired = rw (up2 .first-pair) };
     same-length = up2 .same-length ∙ up1 .same-length ∙ length2;
   }
+
+  -- in words
+  pub crossed : Crossed H N a b p q rows rows3
+  crossed = record {
+    first-ends = λ g u. end-is g ∙ L-first u;
+    first-starts = λ g u. start-kept (next g) ∙ next-start (way-live H N rows thirds lent in-order lp u) ∙ L-first u;
+    second-ends = λ g w. end-is g ∙ L-second w;
+    second-starts = λ g w. start-kept (next g) ∙ next-start (way-live H N rows thirds lent in-order lb w) ∙ L-second w;
+    a-pair = pair-a (ℕ-discrete a b);
+    q-pair = pair-q (ℕ-discrete q p);
+    b-pair = up2 .first-pair;
+    p-pair = up2 .second-pair;
+    other-ends = λ g x y. end-is g ∙ L-neither (x, y);
+    other-starts = λ g x y. start-kept (next g) ∙ next-kept (x, y);
+    other-pairs = pair-kept;
+    props = λ g. up2 .other-columns prop (λ z. let k : _≡_ {A = ℕ} 0 1 = cc in omega arith) g ∙ up1 .other-columns prop (λ z. let k : _≡_ {A = ℕ} 0 1 = cc in omega arith) g ∙ props2 g;
+    behind = up2 .behind H (lb .in-use) (lp .in-use) ∙ up1 .behind H (la .in-use) (lq .in-use) ∙ behind2;
+    same-length = up2 .same-length ∙ up1 .same-length ∙ length2;
+  }
+
+  -- the position at a corner is as it was
+  module _ {positions copies : List ℕ} (c : Copied N a rows positions copies) where
+    corner : (h v : ℕ) → startOf rows3 h ≡ pos v → (w : ℕ) → startOf rows h ≡ pos w → triple copies v ≡ triple positions w → triple copies (start-vertex rows3 h) ≡ triple positions (start-vertex rows h)
+    corner h v e w f x = rw (e, f) x
+
+    pub corners : (h : ℕ) → Live H rows h → triple copies (start-vertex rows3 h) ≡ triple positions (start-vertex rows h)
+    corners h l = ⊎-elim first (λ r. ⊎-elim second neither r) (by-way (next (next h)))
+      where
+        was : startOf rows h ≡ endOf rows (next (next h))
+        was = ap (startOf rows) (sym (next-round h)) ∙ sym (row (on (on l)) .joined)
+
+        first : P (next (next h)) → triple copies (start-vertex rows3 h) ≡ triple positions (start-vertex rows h)
+        first u = corner h N (start-is l ∙ L-first u) (start-vertex rows a) (was ∙ P-end u ∙ row la .pair-end ∙ row la .start-is) (c .first-copy)
+
+        second : Q (next (next h)) → triple copies (start-vertex rows3 h) ≡ triple positions (start-vertex rows h)
+        second w = corner h (N + 1) (start-is l ∙ L-second w) (end-vertex rows a) (was ∙ Q-end w ∙ sym (reached-end H N rows thirds lent in-order lb r2) ∙ row la .end-is) (c .second-copy)
+
+        neither : Neither (next (next h)) → triple copies (start-vertex rows3 h) ≡ triple positions (start-vertex rows h)
+        neither n = corner h (start-vertex rows h) (start-is l ∙ L-neither n ∙ sym was ∙ row l .start-is) (start-vertex rows h) (row l .start-is) (c .in-use (start-vertex rows h) (row l .start-in))

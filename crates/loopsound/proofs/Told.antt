@@ -1,35 +1,42 @@
--- What form_loop does in words: whenever it is done a sound net stays sound; where it says 1 to 5 nothing is changed. (Where it says 6
--- or 7 the rows in use are as they were: loops/proofs/Told.antt, `form-refused`.)
+-- What form_loop does in words: on a sound net, at two live half-edges, it is done, has no room or is stopped, each exactly when
+-- specs/Formed.antt says so, and leaves what stands there; whenever it is done a sound net stays sound; where it says 1 to 5 nothing is
+-- changed.
 use mathlib.Core.Path.{_≡_, refl, sym, _∙_}
 use mathlib.Core.Bool.{false, true≢false, _&&_}
 use mathlib.Core.List.{List, [], _∷_}
-use Prim.Native.Nat.{ℕ, _+_, _<_}
+use mathlib.Core.Logic.{_↔_}
+use Prim.Native.Nat.{ℕ, _+_, _<_, _≤_}
 use native.Mathlib.Omega.{arith}
+use borrow.Author.Tests.{le-leb}
 use lib.Dec.{eqb}
 use lib.IntN.{ℤ, pos}
-use Rattle.answers.specs.Answers.{whole, done}
+use Rattle.answers.specs.Answers.{whole, done, no-room, stopped}
 use Rattle.answers.proofs.Laws.{numbers-differ, values-agree}
 use Rattle.laws.proofs.Integers.{pos-inj}
 use Rattle.laws.proofs.Tests.{by-test, and2}
 use Rattle.numbers.specs.Numbers.{Named, at, nothing, names}
-use Rattle.numbers.proofs.Names.{names-below}
-use Rattle.rows.specs.Halfedges.{is-paired}
+use Rattle.numbers.proofs.Names.{names-at, names-below}
+use Rattle.rows.specs.Halfedges.{is-paired, lent-halfedges}
+use Rattle.rows.specs.Triples.{lent-triples}
 use Rattle.net.specs.declared.Counts.{Counts}
 use Rattle.net.specs.Net.{Net, net}
 use Rattle.net.specs.Counts.{with-vertices, is-shaped, spare-holds, vertex-capacity-over}
-use Rattle.net.specs.Sound.{Live, Sound}
+use Rattle.net.specs.Sound.{partner, Live, Sound}
 use Rattle.net.proofs.Shape.{capacities, within, shaped-true, shaped-with}
-use Rattle.net.proofs.Sound.{paired-live}
+use Rattle.net.proofs.Sound.{live-paired, paired-live}
 use Rattle.soundness.specs.Check.{sound-or, checkNet}
 use Rattle.soundness.specs.Order.{least-out}
 use Rattle.soundness.proofs.Told.{check-sound}
 use Rattle.steps.specs.declared.How.{How}
 use Rattle.steps.specs.declared.How.the-variants as W
 use Rattle.steps.specs.Steps.{Middle, refused, is-refused, begin, how-said}
+use Rattle.walks.specs.Way.{Reached}
 use Rattle.loops.specs.Loops.{loop-at}
 use Rattle.loops.specs.FormLoop.{Left, left, formAt, formNamed, formLoop}
 use Rattle.loops.proofs.Kept.{frame-loop}
-use Rattle.loopsound.proofs.Steps.{loop-left, loop-in-order}
+use Rattle.loopsound.specs.Formed.{Formed, looped, full, halted, Spared}
+use Rattle.loopsound.proofs.Steps.{Comes, comes, loop-left, loop-in-order}
+use Rattle.loopsound.proofs.Steps as S
 
 -- done says that the steps went on, and how many vertices are in use
 said-done : (u : ℕ) (w : How) (k : ℕ) → how-said u w ≡ done (whole (pos k) ∷ []) → (is-refused w ≡ false) × (u ≡ k)
@@ -94,6 +101,102 @@ module _ (c : Counts) (n : Net) (sound : Sound c n) (saved : List ℤ) (held : L
           by-test (is-paired rows a && is-paired rows b)
           (λ u. let p = and2 (is-paired rows a) (is-paired rows b) u in rw u (at-two a b (paired-live H rows a (names-below first H s) (p .0)) (paired-live H rows b (names-below second H t) (p .1))))
           (λ u. rw u (λ e. numbers-differ e (λ z. omega arith)))
+
+-- a sound net, spares that are long enough and two live half-edges: done, no room or stopped
+module _ (c : Counts) (n : Net) (sound : Sound c n) (saved : List ℤ) (held : List ℕ) (saved-long : c .halfedges ≤ lent-halfedges saved) (held-long : c .vertices ≤ lent-triples held)
+    (first second : ℤ) (a b : ℕ) (is-a : first ≡ pos a) (la : Live (c .halfedges) (n .halfedges) a) (is-b : second ≡ pos b) (lb : Live (c .halfedges) (n .halfedges) b) where
+  abbrev result : Left
+  result = formLoop c n saved held first second
+
+  abbrev room-for : ℕ
+  room-for = vertex-capacity-over (n .positions)
+
+  comes-to : result ≡ formAt (c .halfedges) (c .vertices) room-for a b (n .halfedges) (n .positions) saved held
+  unfolding formLoop formNamed checkNet
+  comes-to =
+      let checked : sound-or (least-out (c .halfedges) (c .vertices) (n .halfedges)) ≡ done [] = rw (shaped-true c n (sound .shaped)) at (check-sound c n .1 sound) in
+      rw (
+        shaped-true c n (sound .shaped),
+        le-leb (c .halfedges) (lent-halfedges saved) saved-long,
+        le-leb (c .vertices) (lent-triples held) held-long,
+        checked,
+        names-at first (c .halfedges) a is-a (la .in-use),
+        names-at second (c .halfedges) b is-b (lb .in-use),
+        live-paired (c .halfedges) (n .halfedges) la,
+        live-paired (c .halfedges) (n .halfedges) lb,
+      )
+
+  -- which of the three, and what it leaves
+  pub form-told : Formed (c .halfedges) (c .vertices) room-for a b (n .halfedges) (n .positions) result
+  unfolding formAt
+  form-told =
+      let w = within c n (sound .shaped) in
+      let z = capacities c n in
+      rw comes-to (go (comes (c .halfedges) (c .vertices) room-for (n .halfedges) (n .positions) (w .halfedges-thirds) (w .halfedges-lent) (sound .in-order) (z .vertices-lent) (z .vertices-most) (sound .shaped .vertices-fit) a b la lb))
+    where
+      go : Comes (c .halfedges) (c .vertices) room-for (n .halfedges) (n .positions) (within c n (sound .shaped) .halfedges-thirds) (within c n (sound .shaped) .halfedges-lent) (sound .in-order) (capacities c n .vertices-lent) (capacities c n .vertices-most) (sound .shaped .vertices-fit) a b la lb →
+          Formed (c .halfedges) (c .vertices) room-for a b (n .halfedges) (n .positions) (formAt (c .halfedges) (c .vertices) room-for a b (n .halfedges) (n .positions) saved held)
+      go (S.no-room few e) = full (record { said = rw e; few = few; rows-kept = rw e; filled-zero = rw e })
+      go (S.stopped room not-reached e) = halted (record { said = rw e; room = room; not-reached = not-reached; rows-kept = rw e; filled-zero = rw e })
+      go (S.goes g) = let e = g .runs in looped (record {
+        said = rw e;
+        room = g .room;
+        first-reached = g .first-reached;
+        second-reached = g .second-reached;
+        between = g .between;
+        copies = g .copies;
+        crossed = g .crossed-between;
+        copied = g .copied-there;
+        corners = g .corners-kept;
+        removed = rw e (g .removed-there);
+      })
+
+  pub form-spared : Spared (c .halfedges) (c .vertices) (n .halfedges) (n .positions) saved held result
+  unfolding formAt
+  form-spared = rw comes-to (record { rows-saved = refl; positions-held = refl })
+
+  -- so each is said exactly when its reason holds
+  abbrev both-reached : Type 0
+  both-reached = Reached (n .halfedges) (partner (n .halfedges) a) (partner (n .halfedges) b) × Reached (n .halfedges) b a
+
+  pub form-no-room : (result .said ≡ no-room) ↔ (room-for < c .vertices + 2)
+  form-no-room = (λ e. there e form-told, λ f. back f form-told)
+    where
+      there : result .said ≡ no-room → Formed (c .halfedges) (c .vertices) room-for a b (n .halfedges) (n .positions) result → room-for < c .vertices + 2
+      there e (looped l) = numbers-differ (sym (l .said) ∙ e) (λ z. omega arith)
+      there e (full l) = l .few
+      there e (halted l) = numbers-differ (sym (l .said) ∙ e) (λ z. omega arith)
+
+      back : room-for < c .vertices + 2 → Formed (c .halfedges) (c .vertices) room-for a b (n .halfedges) (n .positions) result → result .said ≡ no-room
+      back f (looped l) = absurd (omega (arith, l .room))
+      back f (full l) = l .said
+      back f (halted l) = absurd (omega (arith, l .room))
+
+  pub form-stopped : (result .said ≡ stopped) ↔ ((c .vertices + 2 ≤ room-for) × (both-reached → ⊥))
+  form-stopped = (λ e. there e form-told, λ f. back f form-told)
+    where
+      there : result .said ≡ stopped → Formed (c .halfedges) (c .vertices) room-for a b (n .halfedges) (n .positions) result → (c .vertices + 2 ≤ room-for) × (both-reached → ⊥)
+      there e (looped l) = numbers-differ (sym (l .said) ∙ e) (λ z. omega arith)
+      there e (full l) = numbers-differ (sym (l .said) ∙ e) (λ z. omega arith)
+      there e (halted l) = (l .room, λ r. l .not-reached (r .0) (r .1))
+
+      back : (c .vertices + 2 ≤ room-for) × (both-reached → ⊥) → Formed (c .halfedges) (c .vertices) room-for a b (n .halfedges) (n .positions) result → result .said ≡ stopped
+      back f (looped l) = absurd (f .1 (l .first-reached, l .second-reached))
+      back f (full l) = absurd (omega (arith, l .few, f .0))
+      back f (halted l) = l .said
+
+  pub form-done : (result .said ≡ done (whole (pos (c .vertices + 2)) ∷ [])) ↔ ((c .vertices + 2 ≤ room-for) × both-reached)
+  form-done = (λ e. there e form-told, λ f. back f form-told)
+    where
+      there : result .said ≡ done (whole (pos (c .vertices + 2)) ∷ []) → Formed (c .halfedges) (c .vertices) room-for a b (n .halfedges) (n .positions) result → (c .vertices + 2 ≤ room-for) × both-reached
+      there e (looped l) = (l .room, (l .first-reached, l .second-reached))
+      there e (full l) = numbers-differ (sym (l .said) ∙ e) (λ z. omega arith)
+      there e (halted l) = numbers-differ (sym (l .said) ∙ e) (λ z. omega arith)
+
+      back : (c .vertices + 2 ≤ room-for) × both-reached → Formed (c .halfedges) (c .vertices) room-for a b (n .halfedges) (n .positions) result → result .said ≡ done (whole (pos (c .vertices + 2)) ∷ [])
+      back f (looped l) = l .said
+      back f (full l) = absurd (omega (arith, l .few, f .0))
+      back f (halted l) = absurd (l .not-reached (f .1 .0) (f .1 .1))
 
 -- steps that are done, have no room or are stopped say 0, 6 or 7
 steps-say : (u : ℕ) (w : How) → 0 < how-said u w .number → how-said u w .number < 6 → ⊥

@@ -1,1 +1,1 @@
-// form_loop in words: whenever it is done a sound net stays sound, and what its first refusals leave. There is no code here.
+// form_loop in words: which answer it gives and what it leaves; whenever it is done a sound net stays sound. There is no code here.
