@@ -9,11 +9,14 @@ use Rattle.numbers.specs.Numbers.{names, named-or}
 use Rattle.numbers.specs.Next.{most-halfedges}
 use Rattle.rows.specs.Halfedges.{pairOf, append-triangle, zero-rows, lent-halfedges}
 use Rattle.rows.specs.Triples.{triple, put-triple, reference, put-reference, zero-triples, zero-references, lent-triples}
+use Rattle.net.specs.Counts.{most-vertices}
 use Rattle.pairing.specs.Pairing.{paired}
+use Rattle.steps.specs.declared.Run.{Run}
 use Rattle.steps.specs.Steps.{Middle, middle, refused, NoRoom, Stopped, ended, with-rows}
 use Rattle.walks.specs.Walk.{onward, moved, update}
 use Rattle.loops.specs.Loops.{append}
 use Rattle.growth.specs.declared.Limits.{Limits}
+use Rattle.growth.specs.declared.Grown.{Grown}
 
 pub record Growing : Type 0 where
   pub middle : Middle
@@ -24,6 +27,9 @@ pub record Growing : Type 0 where
 
 abbrev pub growing : Middle → ℕ → List ℕ → List ℤ → Growing
 growing m k n r = record { middle = m; count = k; normals = n; references = r }
+
+abbrev pub grown-to : ℕ → Run → Grown
+grown-to k r = record { halfedges = k; run = r }
 
 abbrev pub rows-of : Growing → List ℤ
 rows-of w = w .middle .halfedges
@@ -50,6 +56,17 @@ pub record Fits (l : Limits) (k : ℕ) (rows : List ℤ) : Type 0 where
 pub record FacesFit (l : Limits) (normals : List ℕ) (references : List ℤ) : Type 0 where
   pub normals-lent : l .normals ≡ true → l .halfedges / 3 ≤ lent-triples normals
   pub references-lent : l .references ≡ true → l .halfedges / 3 ≤ lent-triples references
+
+-- the vertices in use are within a capacity that is lent
+pub record VerticesFit (l : Limits) (vertices : ℕ) (positions : List ℕ) : Type 0 where
+  pub within-vertices : vertices ≤ l .vertices
+  pub vertices-lent : l .vertices ≤ lent-triples positions
+  pub few-vertices : l .vertices ≤ most-vertices
+
+-- a step gives up no half-edge and no vertex that is in use
+pub record More (a b : Grown) : Type 0 where
+  pub halfedges-grow : a .halfedges ≤ b .halfedges
+  pub vertices-grow : a .run .vertices ≤ b .run .vertices
 
 -- ---- one triangle beside h: from a to b, on to where h starts, and back; its props are that of e, twice, and that of h
 unfoldable pub add : Limits → ℕ → ℕ → ℕ → ℕ → Growing → Growing

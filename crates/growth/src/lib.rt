@@ -8,8 +8,8 @@ ghost use lib.IntN.{ℤ};
 ghost use Rattle.numbers.specs.Numbers.{halfedgeNumber, vertexNumber};
 ghost use Rattle.rows.specs.Halfedges.{lent-halfedges};
 ghost use Rattle.rows.specs.Triples.{lent-triples, triple, put-triple, reference, put-reference};
-ghost use Rattle.steps.specs.Steps.{Middle, middle, is-refused};
-ghost use Rattle.growth.specs.Growth.{growing, Fits, FacesFit, add, join, face, beside};
+ghost use Rattle.steps.specs.Steps.{Middle, middle, running, Stopped, is-refused, InUse};
+ghost use Rattle.growth.specs.Growth.{growing, grown-to, Fits, FacesFit, VerticesFit, More, add, join, face, beside, relabel, copy-of, copy-round};
 use numbers::Halfedge;
 use numbers::NamedHalfedge;
 use numbers::Vertex;
@@ -40,7 +40,7 @@ fn add_triangle(
     e: Halfedge,
 ) -> Grown
     requires { ⌜ ((halfedgeNumber h < grown .halfedges) × (halfedgeNumber e < grown .halfedges)) × (((vertexNumber a < 2 ^ 31) × (vertexNumber b < 2 ^ 31)) × Fits limits (grown .halfedges) (now rows)) ⌝ }
-    ensures { λ r. ⌜ ((p : List ℕ) (n : List ℕ) (f : List ℤ) → growing (middle (now (rows .exit)) p (r .run)) (r .halfedges) n f ≡ join (grown .halfedges) (halfedgeNumber h) (add limits (vertexNumber a) (vertexNumber b) (halfedgeNumber h) (halfedgeNumber e) (growing (middle (now (rows .entry)) p (grown .run)) (grown .halfedges) n f))) × ((grown .halfedges ≤ r .halfedges) × (Fits limits (r .halfedges) (now (rows .exit)) × (is-refused (r .run .how) ≡ false → grown .halfedges + 3 ≤ r .halfedges))) ⌝ }
+    ensures { λ r. ⌜ ((p : List ℕ) (n : List ℕ) (f : List ℤ) → growing (middle (now (rows .exit)) p (r .run)) (r .halfedges) n f ≡ join (grown .halfedges) (halfedgeNumber h) (add limits (vertexNumber a) (vertexNumber b) (halfedgeNumber h) (halfedgeNumber e) (growing (middle (now (rows .entry)) p (grown .run)) (grown .halfedges) n f))) × ((grown .halfedges ≤ r .halfedges) × (Fits limits (r .halfedges) (now (rows .exit)) × ((r .run .vertices ≡ grown .run .vertices) × (is-refused (r .run .how) ≡ false → (is-refused (grown .run .how) ≡ false) × (grown .halfedges + 3 ≤ r .halfedges))))) ⌝ }
 {
     let run = grown.run;
     let used = grown.halfedges;
@@ -125,10 +125,71 @@ pub fn beside_step(
     e: Halfedge,
 ) -> Grown
     requires { ⌜ ((halfedgeNumber h < grown .halfedges) × (halfedgeNumber e < grown .halfedges)) × (((vertexNumber a < 2 ^ 31) × (vertexNumber b < 2 ^ 31)) × (Fits limits (grown .halfedges) (now rows) × FacesFit limits (now normals) (now references))) ⌝ }
-    ensures { λ r. ⌜ ((p : List ℕ) → growing (middle (now (rows .exit)) p (r .run)) (r .halfedges) (now (normals .exit)) (now (references .exit)) ≡ beside limits (vertexNumber a) (vertexNumber b) (halfedgeNumber h) (halfedgeNumber e) (growing (middle (now (rows .entry)) p (grown .run)) (grown .halfedges) (now (normals .entry)) (now (references .entry)))) × ((grown .halfedges ≤ r .halfedges) × Fits limits (r .halfedges) (now (rows .exit))) ⌝ }
+    ensures { λ r. ⌜ ((p : List ℕ) → growing (middle (now (rows .exit)) p (r .run)) (r .halfedges) (now (normals .exit)) (now (references .exit)) ≡ beside limits (vertexNumber a) (vertexNumber b) (halfedgeNumber h) (halfedgeNumber e) (growing (middle (now (rows .entry)) p (grown .run)) (grown .halfedges) (now (normals .entry)) (now (references .entry)))) × ((grown .halfedges ≤ r .halfedges) × (Fits limits (r .halfedges) (now (rows .exit)) × ((r .run .vertices ≡ grown .run .vertices) × (is-refused (r .run .how) ≡ false → (is-refused (grown .run .how) ≡ false) × (grown .halfedges + 3 ≤ r .halfedges))))) ⌝ }
 {
     let used = grown.halfedges;
     let added = add_triangle(rows, limits, grown, a, b, h, e);
     add_face(normals, references, limits, added, h.number() / 3, used / 3);
     added
+}
+
+// The steps stop here, with the half-edges in use so far.
+pub fn halt(grown: Grown) -> Grown
+    ensures { λ r. ⌜ r ≡ grown-to (grown .halfedges) (running (grown .run .vertices) Stopped) ⌝ }
+{
+    let run = grown.run;
+    Grown {
+        halfedges: grown.halfedges,
+        run: steps::stopped(run),
+    }
+}
+
+// The step that sets v on the fan of h: on the start of each half-edge and on the end of its partner, once round.
+pub fn relabel_step(rows: &mut [i32], halfedges: usize, run: Run, v: Vertex, h: Halfedge) -> Run
+    requires { ⌜ (halfedgeNumber h < halfedges) × ((vertexNumber v < 2 ^ 31) × InUse halfedges (now rows)) ⌝ }
+    ensures { λ r. ⌜ ((p : List ℕ) → middle (now (rows .exit)) p r ≡ relabel halfedges (vertexNumber v) (halfedgeNumber h) (middle (now (rows .entry)) p run)) × (r .vertices ≡ run .vertices) ⌝ }
+{
+    if steps::refused(run) {
+        return run;
+    }
+    let NamedHalfedge::At(p) = rows::halfedges::pair_of(rows, h, halfedges) else {
+        return steps::stopped(run);
+    };
+    let NamedHalfedge::At(q) = walks::move_on(rows, halfedges, v, p) else {
+        return steps::stopped(run);
+    };
+    walks::update_step(rows, halfedges, run, v, q, p)
+}
+
+// The step that appends a copy of v.
+pub fn copy_of(positions: &mut [u64], limits: Limits, run: Run, v: Vertex) -> Run
+    requires { ⌜ (vertexNumber v < run .vertices) × VerticesFit limits (run .vertices) (now positions) ⌝ }
+    ensures { λ r. ⌜ ((h : List ℤ) → middle h (now (positions .exit)) r ≡ copy-of (limits .vertices) (vertexNumber v) (middle h (now (positions .entry)) run)) × ((run .vertices ≤ r .vertices) × VerticesFit limits (r .vertices) (now (positions .exit))) ⌝ }
+{
+    if steps::refused(run) {
+        return run;
+    }
+    loops::append_copy(positions, limits.vertices, run, v)
+}
+
+// A copy of v, set on the fan of h.
+pub fn copy_round(
+    rows: &mut [i32],
+    positions: &mut [u64],
+    limits: Limits,
+    grown: Grown,
+    v: Vertex,
+    h: Halfedge,
+) -> Grown
+    requires { ⌜ ((halfedgeNumber h < grown .halfedges) × (vertexNumber v < grown .run .vertices)) × (Fits limits (grown .halfedges) (now rows) × VerticesFit limits (grown .run .vertices) (now positions)) ⌝ }
+    ensures { λ r. ⌜ ((n : List ℕ) (f : List ℤ) → growing (middle (now (rows .exit)) (now (positions .exit)) (r .run)) (r .halfedges) n f ≡ copy-round limits (vertexNumber v) (halfedgeNumber h) (growing (middle (now (rows .entry)) (now (positions .entry)) (grown .run)) (grown .halfedges) n f)) × ((r .halfedges ≡ grown .halfedges) × (More grown r × (Fits limits (r .halfedges) (now (rows .exit)) × VerticesFit limits (r .run .vertices) (now (positions .exit))))) ⌝ }
+{
+    let used = grown.halfedges;
+    let run = grown.run;
+    let copy = numbers::vertex_appended(run.vertices);
+    let copied = copy_of(positions, limits, run, v);
+    Grown {
+        halfedges: used,
+        run: relabel_step(rows, used, copied, copy, h),
+    }
 }

@@ -1,5 +1,5 @@
 -- `growth::add_triangle` meets its contract: each return is by the tests met so far.
-use mathlib.Core.Path.{sym, ap, _∙_}
+use mathlib.Core.Path.{refl, sym, ap, _∙_}
 use mathlib.Core.List.{List}
 use mathlib.Core.Bool.{true≢false}
 use Prim.Native.Nat.{_+_}
@@ -25,7 +25,7 @@ returns c =
     let s = c .before .before .before .args in
     let t = sym (c .before .refused .ensures) ∙ c .if1 .taken in (
       λ p n f. over-before (s .limits) (s .a .0) (s .b .0) (s .h .0) (s .e .0) (s .grown .halfedges) (s .rows .now) p (s .grown .run) n f t,
-      (le-refl _, (c .before .before .before .pre .1 .1, λ z. not-both _ t z)),
+      (le-refl _, (c .before .before .before .pre .1 .1, (refl, λ z. not-both _ t z))),
     )
 
 no-room-requires : tie.Need-no-room-requires
@@ -37,7 +37,7 @@ returns-2 c =
     let t = sym (c .before .before .before .before .refused .ensures) ∙ c .before .before .before .if1 .left in
     rw (c .no-room .ensures) (
       λ p n f. full (s .limits) (s .a .0) (s .b .0) (s .h .0) (s .e .0) (s .grown .halfedges) (s .rows .now) p (s .grown .run) n f t (c .before .if2 .taken),
-      (le-refl _, (c .before .before .before .before .before .before .pre .1 .1, λ z. absurd (true≢false z))),
+      (le-refl _, (c .before .before .before .before .before .before .pre .1 .1, (refl, λ z. absurd (true≢false z)))),
     )
 
 append-triangle-requires : tie.Need-append-triangle-requires
@@ -73,7 +73,7 @@ returns-3 c =
     rw (c .stopped .ensures) (
       λ p n f. ap (λ (x : List ℤ). growing (middle x p (running (s .grown .run .vertices) Stopped)) (s .grown .halfedges + 3) n f) (c .before .before .before .before .before .before .append-triangle .ensures)
           ∙ lost (s .limits) (s .a .0) (s .b .0) (s .h .0) (s .e .0) (s .grown .halfedges) (s .rows .now) p (s .grown .run) n f t (c .before .before .before .before .before .before .before .before .if2 .left) z,
-      (omega arith, (fits, λ y. omega arith)),
+      (omega arith, (fits, (refl, λ y. (t, omega arith)))),
     )
 
 add-halfedge-appended : tie.Need-add-halfedge-appended
@@ -113,7 +113,7 @@ returns-4 c =
     let e = rw (c .before .before .before .before .before .pair-rows .ensures, c .before .before .before .before .before .before .halfedge-appended .ensures, c .before .before .halfedge-appended2 .ensures, c .before .before .before .before .before .before .before .before .before .before .before .before .before .before .append-triangle .ensures) at (c .before .pair-rows2 .ensures) in (
       λ p n f. ap (λ (x : List ℤ). growing (middle x p (s .grown .run)) (s .grown .halfedges + 3) n f) e
           ∙ added (s .limits) (s .a .0) (s .b .0) (s .h .0) (s .e .0) (s .grown .halfedges) (s .rows .now) p (s .grown .run) n f t (c .before .before .before .before .before .before .before .before .before .before .before .before .before .before .before .before .if2 .left) z,
-      (omega arith, (grown-fits _ _ _ _ (c .before .before .before .before .before .before .before .before .before .before .before .before .before .before .before .before .before .before .before .before .before .pre .1 .1) (c .before .before .before .before .before .before .before .before .before .before .before .before .before .before .before .before .if2 .left) len, λ y. omega arith)),
+      (omega arith, (grown-fits _ _ _ _ (c .before .before .before .before .before .before .before .before .before .before .before .before .before .before .before .before .before .before .before .before .before .pre .1 .1) (c .before .before .before .before .before .before .before .before .before .before .before .before .before .before .before .before .if2 .left) len, (refl, λ y. (t, omega arith)))),
     )
 
 pub add-triangle-spec : {M : Type 1} → statement M

@@ -16,7 +16,7 @@ add-face-requires : tie.Need-add-face-requires
 add-face-requires c κs =
     let p = c .before .before .before .before .before .before .before .pre in
     let a = c .before .before .before .before .add-triangle .ensures .1 in
-    (p .1 .1 .1, λ z. let b = a .1 .1 z in let w = a .1 .0 .within-capacity in omega (arith, c .number .ensures, b, w, p .0 .0))
+    (p .1 .1 .1, λ z. let b = a .1 .1 .1 z .1 in let w = a .1 .0 .within-capacity in omega (arith, c .number .ensures, b, w, p .0 .0))
 
 same-length : tie.Need-same-length
 same-length c = search needs
@@ -31,7 +31,7 @@ returns : tie.Need-returns
 unfolding beside
 returns c =
     let a = c .before .before .before .before .before .before .before .before .add-triangle .ensures in
-    (λ p. c .before .before .before .add-face .ensures _ refl ∙ rw (c .before .before .before .before .number .ensures, a .0 p (c .before .before .before .before .before .before .before .before .before .before .before .args .normals .now) (c .before .before .before .before .before .before .before .before .before .before .before .args .references .now)), (a .1 .0, a .1 .1 .0))
+    (λ p. c .before .before .before .add-face .ensures _ refl ∙ rw (c .before .before .before .before .number .ensures, a .0 p (c .before .before .before .before .before .before .before .before .before .before .before .args .normals .now) (c .before .before .before .before .before .before .before .before .before .before .before .args .references .now)), a .1)
 
 pub beside-step-spec : {M : Type 1} → statement M
 beside-step-spec =
