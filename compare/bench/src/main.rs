@@ -1,5 +1,5 @@
-//! Times each entry beside the original Rust: the same nets, one run, the two sides by turns, the best of several. Writes SPEED.md and
-//! speed.svg into a folder.
+//! Times each entry beside the original Rust: the same nets, one run, the two sides by turns, by the thread's own clock, the best and the
+//! middle of the rounds. Writes SPEED.md and speed.svg into a folder.
 //!
 //! bench FOLDER [TRIANGLES]: on nets of at most so many triangles
 #![allow(dead_code)]
@@ -30,6 +30,8 @@ struct Course {
     mesh: ManifoldImpl,
     /// the same rows for the build with the feature `parallel`
     rows: Vec<parallel::types::Halfedge>,
+    /// and for that build with nothing shared out
+    sequential_rows: Vec<sequential::types::Halfedge>,
     /// a half-edge, and one that update_vert comes to from it in two moves
     from: usize,
     to: usize,
@@ -59,7 +61,7 @@ const RACES: &[Race] = &[
         theirs: |c| edge_op::split_pinched_verts(&mut c.mesh),
         shares: &[],
         constant: false,
-        wanted: &[("in order", 1.0), ("shuffled", 1.0)],
+        wanted: &[("in order", 0.8), ("shuffled", 0.25)],
     },
     Race {
         entry: "split_pinched_verts",
@@ -68,7 +70,7 @@ const RACES: &[Race] = &[
         theirs: |c| edge_op::split_pinched_verts(&mut c.mesh),
         shares: &[("soundness", check_net), ("clearing", clear_words)],
         constant: false,
-        wanted: &[("in order", 2.3), ("shuffled", 1.0)],
+        wanted: &[("in order", 2.05), ("shuffled", 0.85)],
     },
     Race {
         entry: "orbit_owners",
@@ -77,7 +79,16 @@ const RACES: &[Race] = &[
         theirs: |c| assert!(black_box(parallel::edge_op::private::orbit_owners(&c.rows, false)).is_some()),
         shares: &[("clearing", clear_bytes)],
         constant: false,
-        wanted: &[("in order", 0.6), ("shuffled", 0.6)],
+        wanted: &[],
+    },
+    Race {
+        entry: "orbit_owners",
+        beside: "orbit_owners, made one after another",
+        ours: orbit_owners,
+        theirs: |c| assert!(black_box(sequential::edge_op::private::orbit_owners(&c.sequential_rows, false)).is_some()),
+        shares: &[("clearing", clear_bytes)],
+        constant: false,
+        wanted: &[("in order", 0.38), ("shuffled", 0.55)],
     },
     Race {
         entry: "update_vert",
@@ -214,11 +225,14 @@ fn form_loop(c: &mut Course) {
     assert_eq!(told.number, 0);
 }
 
+/// The work buffer is cleared before and after.
 fn clear_words(c: &mut Course) {
+    black_box(&mut c.net.work_words).fill(0);
     black_box(&mut c.net.work_words).fill(0);
 }
 
 fn clear_bytes(c: &mut Course) {
+    black_box(&mut c.net.work_bytes).fill(0);
     black_box(&mut c.net.work_bytes).fill(0);
 }
 
@@ -256,10 +270,15 @@ fn course(name: String, curve: Option<&'static str>, pieces: Vec<[usize; 3]>, in
         .iter()
         .map(|h| parallel::types::Halfedge { start_vert: h.start_vert, end_vert: h.end_vert, paired_halfedge: h.paired_halfedge, prop_vert: h.prop_vert })
         .collect();
+    let sequential_rows = mesh
+        .halfedge
+        .iter()
+        .map(|h| sequential::types::Halfedge { start_vert: h.start_vert, end_vert: h.end_vert, paired_halfedge: h.paired_halfedge, prop_vert: h.prop_vert })
+        .collect();
     let from = folded / 2;
     let onward = |h: usize| net.halfedges[4 * next(h) + 2] as usize;
     let to = onward(onward(from));
-    Course { name, curve, net, mesh, rows, from, to, folded }
+    Course { name, curve, net, mesh, rows, sequential_rows, from, to, folded }
 }
 
 fn courses(most: usize, chance: &mut Chance) -> Vec<Course> {
@@ -306,33 +325,62 @@ fn mesh_of(l: &Lent) -> ManifoldImpl {
     }
 }
 
-/// Nanoseconds of one call: the best of the rounds, each long enough to be timed.
-fn best(best_yet: &mut f64, times: usize, course: &mut Course, f: fn(&mut Course)) {
-    let start = Instant::now();
+/// Nanoseconds that this thread has worked: what other programs take of the machine is not in it.
+fn own_time() -> f64 {
+    const THREAD: i32 = 3;
+    extern "C" {
+        fn clock_gettime(clock: i32, time: *mut [i64; 2]) -> i32;
+    }
+    let mut time = [0; 2];
+    assert_eq!(unsafe { clock_gettime(THREAD, &mut time) }, 0, "the thread's clock is read");
+    time[0] as f64 * 1e9 + time[1] as f64
+}
+
+/// Nanoseconds of one call, of one round.
+fn timed(times: usize, course: &mut Course, f: fn(&mut Course)) -> f64 {
+    let start = own_time();
     for _ in 0..times {
         f(black_box(course));
     }
-    *best_yet = best_yet.min(start.elapsed().as_nanos() as f64 / times as f64);
+    (own_time() - start) / times as f64
 }
 
-/// Times of one entry on one net: ours, the Rust's, and each share by itself. Rounds are short, so that one that nothing interrupts is among
-/// them; at least three, and no new one after three seconds.
-fn raced(race: &Race, course: &mut Course) -> (f64, f64, Vec<f64>) {
+/// Nanoseconds of one call, over the rounds.
+struct Time {
+    best: f64,
+    middle: f64,
+}
+
+impl Time {
+    fn of(mut rounds: Vec<f64>) -> Time {
+        rounds.sort_by(f64::total_cmp);
+        Time { best: rounds[0], middle: rounds[rounds.len() / 2] }
+    }
+
+    /// Best and middle, each for one of so many.
+    fn of_each(&self, count: f64) -> String {
+        format!("{:.2} / {:.2}", self.best / count, self.middle / count)
+    }
+}
+
+/// Times of one entry on one net: ours, the Rust's, and each share by itself. A round has each of them once, long enough to be timed; at least
+/// fifteen rounds, at most sixty, and past fifteen no new one after three seconds.
+fn raced(race: &Race, course: &mut Course) -> (Time, Time, Vec<Time>) {
     let times = (200_000 / course.net.used.halfedges).max(1);
-    let (mut ours, mut theirs) = (f64::MAX, f64::MAX);
-    let mut shares = vec![f64::MAX; race.shares.len()];
+    let mut runs = vec![(race.ours, times), (race.theirs, if race.constant { 1_000 } else { times })];
+    runs.extend(race.shares.iter().map(|&(_, share)| (share, times)));
+    let mut rounds = vec![vec![]; runs.len()];
     let began = Instant::now();
     for round in 0..60 {
-        if round > 2 && began.elapsed().as_secs() >= 3 {
+        if round >= 15 && began.elapsed().as_secs() >= 3 {
             break;
         }
-        best(&mut ours, times, course, race.ours);
-        best(&mut theirs, if race.constant { 1_000 } else { times }, course, race.theirs);
-        for (share, (_, f)) in shares.iter_mut().zip(race.shares) {
-            best(share, times, course, *f);
+        for (taken, &(f, times)) in rounds.iter_mut().zip(&runs) {
+            taken.push(timed(times, course, f));
         }
     }
-    (ours, theirs, shares)
+    let mut taken = rounds.into_iter().map(Time::of);
+    (taken.next().expect("ours"), taken.next().expect("the Rust's"), taken.collect())
 }
 
 fn main() {
@@ -363,21 +411,27 @@ fn run(words: &[String]) {
         for course in &mut courses {
             let rows = course.net.used.halfedges as f64;
             let (ours, theirs, shares) = raced(race, course);
-            let apart: f64 = shares.iter().sum();
-            let shown: String = shares.iter().map(|s| format!(" {:.2} |", s / rows)).collect();
-            let (one, other) = if race.constant { (apart / ours, theirs) } else { (theirs / rows, ours / theirs) };
-            let line = format!("| {} | {} | {:.2} |{shown} {one:.2} | {other:.2} |", course.name, with_commas(rows as usize), ours / rows);
+            let shown: String = shares.iter().map(|s| format!(" {} |", s.of_each(rows))).collect();
+            let apart = Time { best: shares.iter().map(|s| s.best).sum(), middle: shares.iter().map(|s| s.middle).sum() };
+            let (over, under) = if race.constant { (&apart, &ours) } else { (&ours, &theirs) };
+            let ratio = Time { best: over.best / under.best, middle: over.middle / under.middle };
+            let (one, other) = if race.constant { (ratio.of_each(1.0), theirs.of_each(1.0)) } else { (theirs.of_each(rows), ratio.of_each(1.0)) };
+            let line = format!("| {} | {} | {} |{shown} {one} | {other} |", course.name, with_commas(rows as usize), ours.of_each(rows));
             eprintln!("{line}");
             let _ = writeln!(page, "{line}");
             if let Some((order, most)) = race.wanted.iter().find(|(order, _)| course.name == format!("torus of 1,000,000 triangles, {order}")) {
-                wanted.push(format!("{order} at most {most:.1}, and it is {other:.2}"));
+                let beyond = if ratio.best <= *most { String::new() } else { format!(", {:.0} % more", 100.0 * (ratio.best / most - 1.0)) };
+                wanted.push(format!("{order} at most {most:.2}, and it is {}{beyond}", ratio.of_each(1.0)));
             }
             // the other three of surgery take the time of check_net, and the Rust's split is there once
             let drawn = !race.constant || race.entry == "form_loop";
             if let Some(curve) = course.curve.filter(|_| drawn) {
-                curves.push((race.entry.to_string(), curve, rows / 3.0, ours));
+                // orbit_owners runs twice
+                if race.beside != "orbit_owners, made one after another" {
+                    curves.push((race.entry.to_string(), curve, rows / 3.0, ours.best));
+                }
                 if !race.constant && race.entry != "check_net" {
-                    curves.push((format!("Rust's {}", race.beside), curve, rows / 3.0, theirs));
+                    curves.push((format!("Rust's {}", race.beside), curve, rows / 3.0, theirs.best));
                 }
             }
         }
@@ -392,11 +446,12 @@ fn run(words: &[String]) {
 
 const OPENING: &str = "# Speed
 
-`scripts/bench` writes this page: both sides in one run on the same nets, by turns, the best of several rounds, one thread, release builds. The machine is \
-shared, so a ratio says more than a time. Each net has two folded triangles besides, and no vertex of it is pinched.
+`scripts/bench` writes this page: both sides in one run on the same nets, by turns, one thread, release builds. A time is the thread's own, so that other programs on the machine cost \
+it cache and no waiting; each cell has the best and the middle of at least 15 rounds, and a ratio is that of the two bests and that of the two middles. Each net has \
+two folded triangles besides, and no vertex of it is pinched.
 
 What the Rust does not do is shown by itself, as the time of work of the same size: soundness is check_net on the same net, the spare a copy of the half-edge \
-and position rows in use, clearing a fill of the work buffer.
+and position rows in use, clearing the two fills of the work buffer.
 ";
 
 const CLOSING: &str = "
@@ -411,7 +466,7 @@ comes to its last half-edge. It clears the work buffer before and after. The Rus
 the other (the pair, then next of it), as the Rust's is; what it has more is the entry of each half-edge, four bytes where the Rust has one.
 
 orbit_owners is for nets that need not be sound, so it has no such check; it clears its work buffer before and after. The Rust's is the build with the feature \
-`parallel`, threshold 0, on one thread.
+`parallel`, threshold 0: once over rayon with one thread, and once over a stand-in that makes one after another what rayon would share out.
 
 The four operations of surgery are asked at one half-edge, and what they change is put back before the next call. The Rust's calls touch a few rows and take the same time \
 whatever the net; ours read the whole net first, to refuse one that is not sound, and form_loop copies it into the spare, to put it back where it is refused. So their time is that \
