@@ -1,2 +1,4 @@
 pub mod Appended
 pub mod Grows
+pub mod Kept
+pub mod Entry

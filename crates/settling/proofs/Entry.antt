@@ -1,0 +1,54 @@
+-- A net with nothing that calls for answer 1 is within what there can be; and what has grown from it can be settled.
+use mathlib.Core.Path.{_≡_}
+use mathlib.Core.Bool.{true}
+use mathlib.Core.List.{List}
+use Prim.Native.Nat.{ℕ, _/_, _%_, _<_, _≤_}
+use native.Mathlib.Omega.{arith}
+use borrow.Author.Tests.{ltb-true}
+use lib.IntN.{ℤ}
+use Rattle.rows.specs.Halfedges.{lent-halfedges}
+use Rattle.rows.specs.Triples.{lent-triples}
+use Rattle.net.specs.declared.Counts.{Counts}
+use Rattle.net.specs.Net.{Net}
+use Rattle.net.specs.Counts.{Shaped}
+use Rattle.net.proofs.Shape.{capacities}
+use Rattle.steps.specs.Steps.{middle}
+use Rattle.growth.specs.declared.Grown.{Grown}
+use Rattle.growth.specs.declared.Limits.{Limits}
+use Rattle.growth.specs.Growth.{growing}
+use Rattle.settling.specs.Settling.{limits-of, begun, Settles}
+use Rattle.settling.proofs.Kept.{Ready, Grew}
+
+pub begun-ready : (c : Counts) (n : Net) → Shaped c n → Ready (limits-of c n) (begun (c .halfedges) (c .vertices) (n .halfedges) (n .positions) (n .normals) (n .references))
+begun-ready c n s =
+    let k = capacities c n in
+    record {
+      fits = record {
+        thirds = s .thirds;
+        capacity-thirds = omega arith;
+        within-capacity = s .halfedges-fit;
+        lent = k .halfedges-lent;
+        few = k .halfedges-most;
+      };
+      faces = record {
+        normals-lent = λ t. let z = ltb-true 0 (c .normals) t in let y = k .normals-lent (λ e. omega arith) in omega arith;
+        references-lent = λ t. let z = ltb-true 0 (c .references) t in let y = k .references-lent (λ e. omega arith) in omega arith;
+      };
+      vertices-within = s .vertices-fit;
+      vertices-lent = k .vertices-lent;
+    }
+
+-- what has grown from it, with a spare for what was in use
+pub grew-settles : {l : Limits} {H N : ℕ} {rows after : List ℤ} {positions left normals more : List ℕ} {references marked : List ℤ} (saved : List ℤ) (held : List ℕ) (g : Grown) →
+    H ≤ lent-halfedges saved → N ≤ lent-triples held → Grew l (begun H N rows positions normals references) (growing (middle after left (g .run)) (g .halfedges) more marked) →
+    Settles l H N after left more marked saved held g
+grew-settles saved held g hs hp k = record {
+  rows-saved = hs;
+  positions-held = hp;
+  halfedges-grow = k .grows .count-grows;
+  halfedges-lent = omega (arith, k .ready .fits .within-capacity, k .ready .fits .lent);
+  vertices-grow = k .grows .vertices-grow;
+  vertices-lent = omega (arith, k .ready .vertices-within, k .ready .vertices-lent);
+  normals-lent = λ t. omega (arith, k .ready .fits .within-capacity, k .ready .faces .normals-lent t);
+  references-lent = λ t. omega (arith, k .ready .fits .within-capacity, k .ready .faces .references-lent t);
+}

@@ -1,0 +1,249 @@
+-- Each step of a growing net leaves alone what Grows says, on any rows, and stays within what there can be.
+use mathlib.Core.Path.{_≡_, refl, sym, _∙_}
+use mathlib.Core.Bool.{Bool, true, false, true≢false, cond}
+use mathlib.Core.List.{List}
+use Prim.Native.Nat.{ℕ, _+_, _/_, _%_, _<_, _≤_}
+use native.Mathlib.Nat.{le-refl}
+use native.Mathlib.Omega.{arith}
+use borrow.Author.Tests.{leb-false}
+use lib.Dec.{leb}
+use lib.IntN.{ℤ}
+use lib.ListN.{length}
+use Rattle.laws.proofs.Tests.{by-test}
+use Rattle.numbers.specs.Numbers.{Named, at, nothing, names, named-or}
+use Rattle.numbers.specs.Next.{next}
+use Rattle.numbers.proofs.Names.{names-below}
+use Rattle.rows.specs.Halfedges.{pairOf, append-triangle, lent-halfedges}
+use Rattle.rows.specs.Triples.{lent-triples, triple, put-triple, reference, put-reference}
+use Rattle.rows.proofs.Threes.{length-put, triples-behind}
+use Rattle.pairing.specs.Pairing.{paired}
+use Rattle.pairing.proofs.Told.{paired-up}
+use Rattle.steps.specs.Steps.{Middle, middle, running, refused, Going, NoRoom, Stopped, ended, with-rows}
+use Rattle.steps.proofs.Frame.{Frame, frame-same, frame-trans, frame-step, frame-named, frame-rows, frame-ended}
+use Rattle.walks.specs.Walk.{onward, moved, walk, update}
+use Rattle.walks.proofs.Kept.{length-moved, moved-below, frame-update}
+use Rattle.loops.specs.Loops.{append}
+use Rattle.growth.specs.declared.Limits.{Limits}
+use Rattle.growth.specs.Growth.{Growing, growing, rows-of, halted, inside, halt, Fits, FacesFit, add, join, face, beside, relabel, copy-of, copy-round}
+use Rattle.growth.proofs.Fit.{grown-fits}
+use Rattle.growth.proofs.Triangle.{length-triangle, triangle-behind}
+use Rattle.settling.proofs.Appended.{Appended, appended-none, appended-put}
+use Rattle.settling.proofs.Grows.{Grows, grows-same, grows-trans, inside-grows}
+
+-- ---- steps that append no half-edge: half-edges and vertices in use stay
+abbrev Stays : ℕ → Middle → Middle → Type 0
+Stays H a b = Frame H a b × (b .run .vertices ≡ a .run .vertices)
+
+pub update-stays : (H v from to : ℕ) (m : Middle) → from < H → H % 3 ≡ 0 → Stays H m (update H v from to m)
+unfolding update
+update-stays H v from to m b thirds = (frame-update H v from to m b thirds, same)
+  where
+    same : update H v from to m .run .vertices ≡ m .run .vertices
+    same = by-test (refused m) (λ t. rw t) (λ t. rw t (by-test (walk H v to H (m .halfedges) from .there) (λ u. rw u) (λ u. rw u)))
+
+stays-step : {H : ℕ} (m a : Middle) → Stays H m a → Stays H m (cond (refused m) m a)
+stays-step m a s = by-test (refused m) (λ t. rw t (frame-same m, refl)) (λ t. rw t s)
+
+-- a number that is read, and where it names nothing
+pub named-keeps : {A : Type 0} (P : A → Type 0) (z : ℤ) (limit : ℕ) (d : A) (f : ℕ → A) → ((q : ℕ) → q < limit → P (f q)) → P d → P (named-or d (names z limit) f)
+named-keeps P z limit d f g e = go (names z limit) refl
+  where
+    go : (w : Named) → names z limit ≡ w → P (named-or d w f)
+    go (at q) t = g q (names-below z limit t)
+    go nothing t = e
+
+pub relabel-stays : (H x h : ℕ) (m : Middle) → H % 3 ≡ 0 → Stays H m (relabel H x h m)
+unfolding relabel onward
+relabel-stays H x h m thirds =
+    stays-step m _ (named-keeps (Stays H m) (pairOf (m .halfedges) h) H _ _ (λ p hp.
+    let low = moved-below x p (m .halfedges) H thirds hp in
+    let len = length-moved x p (m .halfedges) in
+    let m1 = with-rows (moved x p (m .halfedges)) m in
+    named-keeps (Stays H m) (pairOf (moved x p (m .halfedges)) (next p)) H _ _ (λ q hq.
+    let u = update-stays H x q p m1 hq thirds in
+    (frame-trans (frame-rows m (moved x p (m .halfedges)) (m .run .how) low len) (u .0), u .1))
+    (frame-rows m (moved x p (m .halfedges)) Stopped low len, refl))
+    (frame-ended m Stopped, refl))
+
+-- a copy of v: one vertex more, within the capacity
+copy-frame : {H : ℕ} (capacity v : ℕ) (m : Middle) → m .run .vertices ≤ capacity → capacity ≤ lent-triples (m .positions) → Frame H m (copy-of capacity v m) × (copy-of capacity v m .run .vertices ≤ capacity)
+unfolding copy-of append
+copy-frame {H} capacity v m within lent =
+    by-test (refused m)
+    (λ t. rw t (frame-same m, within))
+    (λ t. rw t (by-test (leb capacity (m .run .vertices)) (λ u. rw u (frame-ended m NoRoom, within)) (λ u. rw u (grown (leb-false capacity (m .run .vertices) u)))))
+  where
+    grown : m .run .vertices < capacity → Frame H m (middle (m .halfedges) (put-triple (m .run .vertices) (triple (m .positions) v) (m .positions)) (running (m .run .vertices + 1) Going)) × (m .run .vertices + 1 ≤ capacity)
+    grown l =
+        let room : m .run .vertices < lent-triples (m .positions) = omega arith in
+        (record { rows-free = refl; rows-lent = refl; grows = omega arith; positions-free = triples-behind (m .run .vertices) (triple (m .positions) v) (m .positions) room; positions-lent = length-put (m .run .vertices) (triple (m .positions) v) (m .positions) room }, omega arith)
+
+-- ---- a net that grows: within what there can be, and that is lent
+pub record Ready (l : Limits) (w : Growing) : Type 0 where
+  pub fits : Fits l (w .count) (rows-of w)
+  pub faces : FacesFit l (w .normals) (w .references)
+  pub vertices-within : w .middle .run .vertices ≤ l .vertices
+  pub vertices-lent : l .vertices ≤ lent-triples (w .middle .positions)
+
+pub record Grew (l : Limits) (a b : Growing) : Type 0 where
+  pub grows : Grows l a b
+  pub ready : Ready l b
+
+module _ (l : Limits) where
+  pub grew-same : (w : Growing) → Ready l w → Grew l w w
+  grew-same w r = record { grows = grows-same w; ready = r }
+
+  pub grew-trans : {a b c : Growing} → Grew l a b → Grew l b c → Grew l a c
+  grew-trans f g = record { grows = grows-trans (f .grows) (g .grows); ready = g .ready }
+
+  -- what grows stays within what there can be, where its counts do
+  grown-ready : {a b : Growing} → Ready l a → Grows l a b → b .count % 3 ≡ 0 → b .count ≤ l .halfedges → b .middle .run .vertices ≤ l .vertices → Ready l b
+  grown-ready r g thirds within few = record {
+    fits = record {
+      thirds = thirds;
+      capacity-thirds = r .fits .capacity-thirds;
+      within-capacity = within;
+      lent = omega (arith, r .fits .lent, g .rows-lent);
+      few = r .fits .few;
+    };
+    faces = record {
+      normals-lent = λ t. omega (arith, r .faces .normals-lent t, g .normals-grow .lent);
+      references-lent = λ t. omega (arith, r .faces .references-lent t, g .references-grow .lent);
+    };
+    vertices-within = few;
+    vertices-lent = omega (arith, r .vertices-lent, g .positions-lent);
+  }
+
+  pub inside-grew : (f : Middle → Middle) (w : Growing) → Ready l w → Frame (w .count) (w .middle) (f (w .middle)) → f (w .middle) .run .vertices ≤ l .vertices → Grew l w (inside f w)
+  inside-grew f w r k b =
+      let g = inside-grows f w k in
+      record { grows = g; ready = grown-ready r g (r .fits .thirds) (r .fits .within-capacity) b }
+
+  pub stays-grew : (f : Middle → Middle) (w : Growing) → Ready l w → Stays (w .count) (w .middle) (f (w .middle)) → Grew l w (inside f w)
+  stays-grew f w r s = inside-grew f w r (s .0) (omega (arith, s .1, r .vertices-within))
+
+  pub halt-grew : (w : Growing) → Ready l w → Grew l w (halt w)
+  halt-grew w r = inside-grew (ended Stopped) w r (frame-ended (w .middle) Stopped) (r .vertices-within)
+
+  -- a step: nothing where an earlier one has refused
+  pub grew-step : (w a : Growing) → Ready l w → (halted w ≡ false → Grew l w a) → Grew l w (cond (halted w) w a)
+  grew-step w a r f = by-test (halted w) (λ t. rw t (grew-same w r)) (λ t. rw t (f t))
+
+  pub copy-of-grew : (v : ℕ) (w : Growing) → Ready l w → Grew l w (inside (copy-of (l .vertices) v) w)
+  copy-of-grew v w r =
+      let k = copy-frame (l .vertices) v (w .middle) (r .vertices-within) (r .vertices-lent) in
+      inside-grew (copy-of (l .vertices) v) w r (k .0) (k .1)
+
+  pub copy-round-grew : (v h : ℕ) (w : Growing) → Ready l w → Grew l w (copy-round l v h w)
+  unfolding copy-round
+  copy-round-grew v h w r =
+      let g = copy-of-grew v w r in
+      grew-trans g (stays-grew (relabel (w .count) (w .middle .run .vertices) h) (inside (copy-of (l .vertices) v) w) (g .ready) (relabel-stays (w .count) (w .middle .run .vertices) h (copy-of (l .vertices) v (w .middle)) (r .fits .thirds)))
+
+  -- two rows in use are paired
+  pub pair-grew : (a b : ℕ) (w : Growing) → Ready l w → a < w .count → b < w .count → Grew l w (inside (with-rows (paired a b (rows-of w))) w)
+  pair-grew a b w r ha hb =
+      let x = paired-up a b (rows-of w) (omega (arith, r .fits .within-capacity, r .fits .lent)) (omega (arith, r .fits .within-capacity, r .fits .lent)) in
+      stays-grew (with-rows (paired a b (rows-of w))) w r (frame-rows (w .middle) (paired a b (rows-of w)) (w .middle .run .how) (x .behind (w .count) ha hb) (x .same-length), refl)
+
+  -- ---- a triangle
+  module _ (a b h e : ℕ) (w : Growing) (r : Ready l w) where
+    abbrev more : Growing
+    more = growing (with-rows (append-triangle (w .count) a b h e (rows-of w)) (w .middle)) (w .count + 3) (w .normals) (w .references)
+
+    added-grew : w .count < l .halfedges → Grew l w more
+    added-grew c =
+        let f = grown-fits l (w .count) (rows-of w) (rows-of w) (r .fits) c refl in
+        let room : w .count + 3 ≤ lent-halfedges (rows-of w) = omega (arith, f .within-capacity, f .lent) in
+        let g : Grows l w more = record {
+          count-grows = omega arith;
+          rows-free = triangle-behind (w .count) a b h e (rows-of w) room;
+          rows-lent = length-triangle (w .count) a b h e (rows-of w) room;
+          vertices-grow = le-refl _;
+          positions-free = refl;
+          positions-lent = refl;
+          normals-grow = appended-none _ _ _;
+          references-grow = appended-none _ _ _;
+        } in
+        record { grows = g; ready = grown-ready r g (f .thirds) (f .within-capacity) (r .vertices-within) }
+
+  joined-grew : (k h : ℕ) (w : Growing) → Ready l w → k + 3 ≤ w .count → h < w .count → Grew l w (join k h w)
+  unfolding join
+  joined-grew k h w r last b =
+      grew-step w _ r (λ t. named-keeps (Grew l w) (pairOf (rows-of w) h) (w .count) _ _ (λ q hq.
+      let x = pair-grew (k + 2) q w r (omega arith) hq in
+      grew-trans x (pair-grew (k + 1) h (inside (with-rows (paired (k + 2) q (rows-of w))) w) (x .ready) (omega arith) b))
+      (halt-grew w r))
+
+  -- a face among those that were appended
+  faced-grew : (t u : ℕ) (a w : Growing) → Grew l a w → a .count / 3 ≤ u → u < w .count / 3 → Grew l a (face l t u w)
+  unfolding face put-triple put-reference
+  faced-grew t u a w f h b =
+      by-test (halted w)
+      (λ k. rw k f)
+      (λ k. rw k
+      (let room : u < l .halfedges / 3 = omega (arith, f .ready .fits .within-capacity) in
+      let p = triple (w .normals) t in
+      let q = reference (w .references) t in
+      let n = appended-put (a .count / 3) (w .count / 3) u (p .x) (p .y) (p .z) (a .normals) (w .normals) h b (λ y. omega (arith, room, f .ready .faces .normals-lent y)) (f .grows .normals-grow) in
+      let m = appended-put (a .count / 3) (w .count / 3) u (q .mesh) (q .coplanar) (q .face) (a .references) (w .references) h b (λ y. omega (arith, room, f .ready .faces .references-lent y)) (f .grows .references-grow) in
+      record {
+        grows = record {
+          count-grows = f .grows .count-grows;
+          rows-free = f .grows .rows-free;
+          rows-lent = f .grows .rows-lent;
+          vertices-grow = f .grows .vertices-grow;
+          positions-free = f .grows .positions-free;
+          positions-lent = f .grows .positions-lent;
+          normals-grow = n;
+          references-grow = m;
+        };
+        ready = record {
+          fits = f .ready .fits;
+          faces = record {
+            normals-lent = λ y. omega (arith, f .ready .faces .normals-lent y, n .lent, f .grows .normals-grow .lent);
+            references-lent = λ y. omega (arith, f .ready .faces .references-lent y, m .lent, f .grows .references-grow .lent);
+          };
+          vertices-within = f .ready .vertices-within;
+          vertices-lent = f .ready .vertices-lent;
+        };
+      }))
+
+  join-halted : (k h : ℕ) (w : Growing) → halted w ≡ true → join k h w ≡ w
+  unfolding join
+  join-halted k h w t = rw t
+
+  face-halted : (t u : ℕ) (w : Growing) → halted w ≡ true → face l t u w ≡ w
+  unfolding face
+  face-halted t u w k = rw k
+
+  face-count : (t u : ℕ) (w : Growing) → face l t u w .count ≡ w .count
+  unfolding face
+  face-count t u w = by-test (halted w) (λ k. rw k) (λ k. rw k)
+
+  -- one more triangle than w has, or the steps do not go on
+  abbrev pub OneMore : Growing → Growing → Type 0
+  OneMore w x = Grew l w x × (halted x ≡ false → (halted w ≡ false) × (w .count + 3 ≤ x .count))
+
+  add-grew : (a b h e : ℕ) (w : Growing) → Ready l w → OneMore w (add l a b h e w)
+  unfolding add
+  add-grew a b h e w r =
+      by-test (halted w)
+      (λ t. rw t (grew-same w r, λ k. absurd (true≢false (sym t ∙ k))))
+      (λ t. rw t (by-test (leb (l .halfedges) (w .count))
+      (λ u. rw u (inside-grew (ended NoRoom) w r (frame-ended (w .middle) NoRoom) (r .vertices-within), λ k. absurd (true≢false k)))
+      (λ u. rw u (added-grew a b h e w r (leb-false (l .halfedges) (w .count) u), λ k. (t, le-refl _)))))
+
+  pub beside-grew : (a b h e : ℕ) (w : Growing) → Ready l w → h < w .count → OneMore w (beside l a b h e w)
+  unfolding beside
+  beside-grew a b h e w r hb = go (add l a b h e w) (add-grew a b h e w r)
+    where
+      go : (x : Growing) → OneMore w x → OneMore w (face l (h / 3) (w .count / 3) (join (w .count) h x))
+      go x g =
+          by-test (halted x)
+          (λ t. rw (join-halted (w .count) h x t, face-halted (h / 3) (w .count / 3) x t) g)
+          (λ t.
+          let c = g .1 t .1 in
+          let j = joined-grew (w .count) h x (g .0 .ready) c (omega arith) in
+          let d : w .count + 3 ≤ join (w .count) h x .count = omega (arith, c, j .grows .count-grows) in
+          (faced-grew (h / 3) (w .count / 3) w (join (w .count) h x) (grew-trans (g .0) j) (le-refl _) (omega arith), λ k. (g .1 t .0, rw (face-count (h / 3) (w .count / 3) (join (w .count) h x)) d)))
