@@ -232,7 +232,7 @@ module _ (l : Limits) where
       (λ t. rw t (grew-same w r, λ k. absurd (true≢false (sym t ∙ k))))
       (λ t. rw t (by-test (leb (l .halfedges) (w .count))
       (λ u. rw u (inside-grew (ended NoRoom) w r (frame-ended (w .middle) NoRoom) (r .vertices-within), λ k. absurd (true≢false k)))
-      (λ u. rw u (added-grew a b h e w r (leb-false (l .halfedges) (w .count) u), λ k. (t, le-refl _)))))
+      (λ u. rw u (added-grew a b h e w r (leb-false (l .halfedges) (w .count) u), λ k. (refl, le-refl _)))))
 
   pub beside-grew : (a b h e : ℕ) (w : Growing) → Ready l w → h < w .count → OneMore w (beside l a b h e w)
   unfolding beside
