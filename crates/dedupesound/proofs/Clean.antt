@@ -1,24 +1,21 @@
 -- A round that lists nothing, over rows in order: no two different live half-edges of one fan have the same end.
 use mathlib.Core.Path.{_≡_, refl, sym, ap, _∙_}
-use mathlib.Core.Bool.{Bool, true, false, cond, true≢false, _&&_, _||_, not}
+use mathlib.Core.Bool.{true, false, true≢false, _&&_, _||_, not}
 use mathlib.Core.List.{List, [], _∷_, _++_}
-use mathlib.Core.Logic.{_⊎_, inl, inr, ⊎-elim}
+use mathlib.Core.Logic.{_⊎_, ⊎-elim}
 use Prim.Native.Nat.{ℕ, zero, suc, _%_, _<_, _≤_}
 use native.Mathlib.Nat.{le-refl}
 use native.Mathlib.Decide.{decLt, ℕ-discrete}
 use native.Mathlib.Omega.{arith}
 use borrow.Author.Tests.{eq-eqb, ne-eqb, eqb-true, lt-ltb, le-leb}
 use lib.Dec.{eqb, ltb}
-use lib.IntN.{ℤ, pos, negsuc, pos-ne-negsuc}
-use lib.Signed.{leZ}
-use Rattle.laws.specs.Integers.{eqZ}
+use lib.IntN.{ℤ, pos-ne-negsuc}
 use Rattle.laws.proofs.Integers.{eqZ-yes, from-zero}
-use Rattle.laws.proofs.Tests.{by-test, and2, both2, or-cases, or-left, or-right, not-both}
+use Rattle.laws.proofs.Tests.{by-test, both2, or-cases, or-left, or-right}
 use Rattle.numbers.specs.Numbers.{at, names, is-named}
-use Rattle.numbers.specs.Next.{next}
 use Rattle.numbers.proofs.Names.{names-at}
 use Rattle.rows.specs.Halfedges.{startOf, endOf, pairOf, none, is-started, is-ended}
-use Rattle.net.specs.Sound.{start-vertex, end-vertex, partner, turn, DeadRow, LiveRow, InOrder, Live}
+use Rattle.net.specs.Sound.{start-vertex, end-vertex, partner, turn, LiveRow, InOrder, Live}
 use Rattle.net.proofs.Sound.{live-row, live-or-dead}
 use Rattle.turning.specs.Fan.{iter, Reach, Turning}
 use Rattle.turning.proofs.Fans.{turning}

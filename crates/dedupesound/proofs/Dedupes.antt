@@ -1,66 +1,99 @@
--- dedupe_edge's steps at a live half-edge of rows in order: there is no room, or the rows are in order afterwards, with as many half-edges and
--- vertices as are then in use. They never stop.
+-- dedupe_edge's steps at a live half-edge of rows in order: there is no room, or the rows are in order afterwards, with as many half-edges
+-- and vertices as are then in use, and what is left is told in words. They never stop.
 use mathlib.Core.Path.{_≡_, refl, sym, ap, _∙_, subst}
-use mathlib.Core.Bool.{true}
-use mathlib.Core.List.{List}
-use mathlib.Core.Logic.{_⊎_, inl, inr, ⊎-elim}
-use Prim.Native.Nat.{ℕ, _<_}
-use borrow.Author.Tests.{eqb-true}
-use lib.Dec.{eqb}
-use lib.IntN.{ℤ, pos}
-use Rattle.laws.proofs.Tests.{by-test}
+use mathlib.Core.Logic.{inl, inr}
+use Prim.Native.Nat.{ℕ}
+use borrow.Author.Tests.{eq-eqb}
+use lib.IntN.{pos}
 use Rattle.numbers.specs.Next.{next}
 use Rattle.numbers.proofs.Names.{names-at}
 use Rattle.rows.specs.Halfedges.{startOf, endOf}
-use Rattle.net.specs.Sound.{start-vertex, end-vertex, Live}
-use Rattle.net.proofs.Sound.{live-row, next-live}
-use Rattle.steps.specs.Steps.{NoRoom, begin}
+use Rattle.net.specs.Sound.{start-vertex}
+use Rattle.net.proofs.Sound.{live-row}
 use Rattle.walks.specs.Way.{move}
 use Rattle.growth.specs.declared.Limits.{Limits}
-use Rattle.growth.specs.Growth.{Growing, growing, copy-round}
+use Rattle.growth.specs.Growth.{Growing, rows-of, copy-round}
 use Rattle.searches.specs.Seek.{Place, seek}
-use Rattle.dedupe.specs.Dedupe.{Stood, stood, at-first, copy-end, second, dedupe-at}
-use Rattle.dedupesound.proofs.Sought.{goes-on, Stops, seek-stops}
-use Rattle.dedupesound.proofs.Steps.{Went, Out, lent, no-room-halts, second-halted, end-halted, copy-round-out, second-out}
-use Rattle.dedupesound.proofs.Inserting.{Stands, insert-stands}
+use Rattle.dedupe.specs.Dedupe.{stood, at-first, copy-end, second, dedupe-at}
+use Rattle.dedupesound.specs.Deduped.{Alone, Deduped}
+use Rattle.dedupesound.proofs.Sought.{goes-on, Stops, seek-stops, none-but-home}
+use Rattle.dedupesound.proofs.Steps.{FanCopied, First, Went, Out, OutWith, without, lent, no-room-halts, second-halted, copy-left}
+use Rattle.dedupesound.proofs.Inserting.{insert-left}
+use Rattle.dedupesound.proofs.Second.{second-left}
 
-module _ (l : Limits) (e v least : ℕ) where
-  -- where there is no room nothing more is done
-  full-second : (w : Growing) → w .middle .run .how ≡ NoRoom → Out l e v least (second l v e w)
-  full-second w z = inl (ap (λ (x : Growing). x .middle .run .how) (second-halted l e v least w (no-room-halts w z)) ∙ z)
+-- the fan about the end copied, where none but e starts where e does
+end-first : (l : Limits) (e v : ℕ) (w after : Growing) → Alone (rows-of w) e → FanCopied v e w after → First l e v w after
+end-first l e v w after alone f = record {
+  way = inr (record {
+    alone = alone;
+    count-is = f .count-is;
+    relabelled = record {
+      these-ends = f .ends;
+      these-starts = f .starts;
+      those-ends = λ g x. absurd x;
+      those-starts = λ g x. absurd x;
+      other-ends = λ g b x y. f .other-ends g x;
+      other-starts = λ g b x y. f .other-starts g x;
+    };
+    pairs = f .pairs;
+    props = f .props;
+    behind = f .behind;
+    same-length = f .same-length;
+    normals-kept = f .normals-are;
+    references-kept = f .references-are;
+  });
+  vertices-are = f .vertices-are;
+  positions-are = f .positions-are;
+}
 
-  then-second : (w : Growing) → Out l e v least w → Out l e v least (second l v e w)
-  then-second w (inl z) = full-second w z
-  then-second w (inr g) = second-out l e v least w g
+module _ (l : Limits) (e v least : ℕ) (w : Growing) (g : Went l e v least w) (is-v : endOf (g .rows) e ≡ pos v) where
+  abbrev s : ℕ
+  s = start-vertex (g .rows) e
 
-  -- no room, or rows in order with a live place
-  abbrev Standing : Stood → Type 0
-  Standing s = (s .growing .middle .run .how ≡ NoRoom) ⊎ ((n : Went l e v least (s .growing)) × Live (n .H) (n .rows) (s .place))
+  is-s : startOf (g .rows) e ≡ pos s
+  is-s = live-row (g .H) (g .N) (g .rows) (g .fits .thirds) (g .in-order) (g .e-live) .start-is
 
-  end-out : (s : Stood) → Standing s → Out l e v least (copy-end l v e s)
+  same-rows : rows-of w ≡ g .rows
+  same-rows = ap rows-of (g .is)
+
+  -- about the end
+  first-left : (p : Place) → Stops (g .H) (g .N) (g .rows) (g .fits .thirds) (lent l e v least w g) (g .in-order) s e (move (g .rows) e) p →
+      OutWith l e v least (First l e v w) (copy-end l v e (at-first l v e w p))
   unfolding copy-end
-  end-out s (inl z) = inl (ap (λ (x : Growing). x .middle .run .how) (end-halted l e v least (s .growing) (s .place) (no-room-halts (s .growing) z)) ∙ z)
-  end-out s (inr (n, p)) =
-      by-test (eqb (s .place) e)
-      (λ t. rw t (copy-round-out l e v least (s .growing) n (next (s .place)) (next-live (n .H) (n .N) (n .rows) (n .fits .thirds) (n .in-order) p)))
-      (λ t. rw t (inr n))
+  first-left p (inl (c, z, m)) = rw z (insert-left l e v least w g is-v c (record {
+    moves = m .moves;
+    there = m .there;
+    not-edge = m .not-home;
+    same-start = m .starts ∙ sym is-s;
+    first = λ k b y. m .first k b (y ∙ is-s);
+  }))
+  first-left p (inr (z, m)) = rw z (ending (copy-left l e v least w g e (g .e-live)))
+    where
+      alone : Alone (g .rows) e
+      alone k r y = none-but-home (g .H) (g .N) (g .rows) (g .fits .thirds) (lent l e v least w g) (g .in-order) s e m k r (y ∙ is-s)
 
-  module _ (w : Growing) (g : Went l e v least w) (is-v : endOf (g .rows) e ≡ pos v) (s : ℕ) where
-    first-stands : (p : Place) → Stops (g .H) (g .N) (g .rows) (g .fits .thirds) (lent l e v least w g) (g .in-order) s e (move (g .rows) e) p → Standing (at-first l v e w p)
-    first-stands p (inl (c, z, r, m, y)) = rw z (insert-stands l e v least w g is-v c m r)
-    first-stands p (inr z) = rw z (inr (g, g .e-live))
+      ending : OutWith l e v least (FanCopied v e w) (copy-round l v (next e) w) → OutWith l e v least (First l e v w) (copy-end l v e (stood w e))
+      ending (inl y) = rw (eq-eqb e e refl) (inl y)
+      ending (inr (n, f)) = rw (eq-eqb e e refl) (inr (n, end-first l e v w (copy-round l v (next e) w) (rw same-rows alone) f))
 
--- the whole
-pub dedupe-goes : (l : Limits) (e v least : ℕ) (w : Growing) (g : Went l e v least w) → endOf (g .rows) e ≡ pos v → Out l e v least (dedupe-at l e w)
-unfolding dedupe-at
-dedupe-goes l e v least w g is-v =
-    let f = g .fits .thirds in
-    let r = live-row (g .H) (g .N) (g .rows) f (g .in-order) (g .e-live) in
-    let s = start-vertex (g .rows) e in
-    let a = names-at (startOf (g .rows) e) (g .N) s (r .start-is) (r .start-in) in
-    let b = names-at (endOf (g .rows) e) (g .N) v is-v (g .v-in) in
-    let d = goes-on (g .H) (g .N) (g .rows) f (lent l e v least w g) (g .in-order) (g .e-live) in
-    let now = growing (begin (g .rows) (g .positions) (g .N)) (g .H) (g .normals) (g .references) in
-    let p = seek (g .H) s e (g .rows) (g .H) (move (g .rows) e) in
-    let o = then-second l e v least _ (end-out l e v least _ (first-stands l e v least w g is-v s p (seek-stops (g .H) (g .N) (g .rows) f (lent l e v least w g) (g .in-order) s e (g .e-live)))) in
-    subst (λ (x : Growing). Out l e v least (dedupe-at l e x)) (sym (g .is)) (rw (a, b, d) (subst (λ (x : Growing). Out l e v least (second l v e (copy-end l v e (at-first l v e x p)))) (g .is) o))
+  -- then about the start; where there is no room nothing more is done
+  then-second : (w1 : Growing) → OutWith l e v least (First l e v w) w1 → OutWith l e v least (Deduped l e w) (second l v e w1)
+  then-second w1 (inl z) = inl (ap (λ (x : Growing). x .middle .run .how) (second-halted l e v least w1 (no-room-halts w1 z)) ∙ z)
+  then-second w1 (inr (n, f)) = second-left l e v least w w1 g n is-v f
+
+  -- the whole
+  pub dedupe-left : OutWith l e v least (Deduped l e w) (dedupe-at l e w)
+  unfolding dedupe-at
+  dedupe-left =
+      let f = g .fits .thirds in
+      let r = live-row (g .H) (g .N) (g .rows) f (g .in-order) (g .e-live) in
+      let a = names-at (startOf (g .rows) e) (g .N) s (r .start-is) (r .start-in) in
+      let b = names-at (endOf (g .rows) e) (g .N) v is-v (g .v-in) in
+      let d = goes-on (g .H) (g .N) (g .rows) f (lent l e v least w g) (g .in-order) (g .e-live) in
+      let p = seek (g .H) s e (g .rows) (g .H) (move (g .rows) e) in
+      let o = then-second _ (first-left p (seek-stops (g .H) (g .N) (g .rows) f (lent l e v least w g) (g .in-order) s e (g .e-live))) in
+      subst (λ (x : Growing). OutWith l e v least (Deduped l e x) (dedupe-at l e x)) (sym (g .is))
+      (rw (a, b, d) (subst (λ (x : Growing). OutWith l e v least (Deduped l e x) (second l v e (copy-end l v e (at-first l v e x p)))) (g .is) o))
+
+  pub dedupe-goes : Out l e v least (dedupe-at l e w)
+  dedupe-goes = without l e v least (Deduped l e w) dedupe-left

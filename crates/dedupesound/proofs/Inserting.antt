@@ -1,12 +1,12 @@
 -- Two triangles inserted where the search about the end has met another half-edge from the same start: there is no room, or the rows are in
 -- order afterwards.
 use mathlib.Core.Path.{_≡_, refl, sym, ap, _∙_, subst}
-use mathlib.Core.Bool.{true, false, cond}
+use mathlib.Core.Bool.{Bool, true, false, cond}
 use mathlib.Core.List.{List}
 use mathlib.Core.Logic.{_⊎_, inl, inr, ⊎-elim}
 use Prim.Native.Nat.{ℕ, _+_, _%_, _/_, _<_, _≤_}
 use native.Mathlib.Omega.{arith}
-use borrow.Author.Tests.{leb-false}
+use borrow.Author.Tests.{leb-false, ne-eqb}
 use lib.Dec.{leb}
 use lib.IntN.{ℤ, pos}
 use lib.ListN.{length}
@@ -14,30 +14,32 @@ use Rattle.laws.proofs.Tests.{by-test}
 use Rattle.numbers.specs.Numbers.{at, names}
 use Rattle.numbers.specs.Next.{next}
 use Rattle.numbers.proofs.Names.{names-at}
-use Rattle.numbers.proofs.NextLaws.{next-round, next-inj}
-use Rattle.rows.specs.Halfedges.{pair, startOf, endOf, pairOf, lent-halfedges, append-triangle}
-use Rattle.rows.specs.Triples.{triple, put-triple, reference, put-reference}
-use Rattle.net.specs.Sound.{partner, LiveRow, InOrder, Live}
+use Rattle.numbers.proofs.NextLaws.{next-in, next-round, next-inj}
+use Rattle.rows.specs.Halfedges.{pair, prop, startOf, endOf, pairOf, propOf, lent-halfedges, rows-from, append-triangle}
+use Rattle.rows.specs.Triples.{lent-triples, triple, put-triple, reference, put-reference}
+use Rattle.rows.proofs.Threes.{triple-put, triple-other, length-put, reference-put, reference-other, length-put-reference}
+use Rattle.net.specs.Sound.{partner, LiveRow, Live}
 use Rattle.net.proofs.Sound.{live-row, live-row-live, next-live, pair-involution}
 use Rattle.pairing.specs.Pairing.{paired}
 use Rattle.steps.specs.Steps.{middle, running, NoRoom, begin}
 use Rattle.walks.specs.Walk.{walk, update}
 use Rattle.turning.specs.Fan.{Turning}
 use Rattle.turning.proofs.Orbit.{reach-trans, reach-sym, live-reach}
-use Rattle.walks.specs.Way.{move, Reached}
-use Rattle.walks.proofs.Kept.{length-walk, other-walk}
+use Rattle.walks.specs.Way.{move, Reached, OnWay}
+use Rattle.walks.proofs.Kept.{length-walk, walk-below, other-walk}
 use Rattle.walks.proofs.Told.{AsTold, moving, move-live, walk-there, walk-told, reach-soon}
 use Rattle.loops.specs.Loops.{append}
-use Rattle.loopsound.proofs.Ways.{reached-end, way-end}
+use Rattle.loopsound.proofs.Ways.{reached-end, way-live, way-end}
 use Rattle.growth.specs.declared.Limits.{Limits}
-use Rattle.growth.specs.Growth.{Growing, growing, Fits, halted, inside, add, join, face, beside, copy-of}
+use Rattle.growth.specs.Growth.{Growing, growing, FacesFit, halted, inside, add, join, face, beside, copy-of}
 use Rattle.growth.proofs.Triangle.{triangle-before}
-use Rattle.dedupe.specs.Dedupe.{Stood, stood, insert-at, insert, pair-new}
+use Rattle.dedupe.specs.Dedupe.{Stood, stood, insert-at, insert, pair-new, copy-end}
+use Rattle.dedupesound.specs.Deduped.{Meets, Nobody, Relabelled, FacesCopied}
 use Rattle.dedupesound.specs.Inserts.{Inserts}
 use Rattle.dedupesound.proofs.Inserted.{inserted, live-after}
 use Rattle.dedupesound.proofs.Rows.{two-triangles, same-length, second-partner, inserts}
 use Rattle.dedupesound.proofs.Sought.{goes-on}
-use Rattle.dedupesound.proofs.Steps.{Went, lent}
+use Rattle.dedupesound.proofs.Steps.{First, Went, OutWith, lent, no-room-halts, end-halted}
 
 -- a triangle beside h: no room, or the rows with it
 module _ (l : Limits) (a b h e k : ℕ) (rows : List ℤ) (p : List ℕ) (n : ℕ) (no' : List ℕ) (re : List ℤ) where
@@ -49,6 +51,13 @@ module _ (l : Limits) (a b h e k : ℕ) (rows : List ℤ) (p : List ℕ) (n : �
 
   abbrev pub references-then : List ℤ
   references-then = cond (l .references) (put-reference (k / 3) (reference re (h / 3)) re) re
+
+  -- as many are lent
+  pub faces-then : k + 3 ≤ l .halfedges → FacesFit l no' re → FacesFit l normals-then references-then
+  faces-then b f = record {
+    normals-lent = λ t. let x = f .normals-lent t in rw (t, length-put (k / 3) (triple no' (h / 3)) no' (omega arith)) x;
+    references-lent = λ t. let x = f .references-lent t in rw (t, length-put-reference (k / 3) (reference re (h / 3)) re (omega arith)) x;
+  }
 
   pub beside-full : leb (l .halfedges) k ≡ true → beside l a b h e (growing (begin rows p n) k no' re) ≡ growing (middle rows p (running n NoRoom)) k no' re
   unfolding beside add join face
@@ -67,8 +76,41 @@ pair-new-halted : (k : ℕ) (w : Growing) → halted w ≡ true → pair-new k w
 unfolding pair-new
 pair-new-halted k w t = rw t
 
+-- rows T and T + 1 of any rows of three, put one after the other
+module _ {A B : Type 0} (row : List A → ℕ → B) (put : ℕ → B → List A → List A)
+    (own : (x : ℕ) (b : B) (s : List A) → x < lent-triples s → row (put x b s) x ≡ b)
+    (other : (x : ℕ) (b : B) (s : List A) → x < lent-triples s → (y : ℕ) → (y ≡ x → ⊥) → row (put x b s) y ≡ row s y)
+    (same : (x : ℕ) (b : B) (s : List A) → x < lent-triples s → length (put x b s) ≡ length s) where
+  copied-twice : (T t u : ℕ) (s : List A) → T + 1 < lent-triples s → u < T → FacesCopied row T t u s (put (T + 1) (row (put T (row s t) s) u) (put T (row s t) s))
+  copied-twice T t u s room b =
+      let one = put T (row s t) s in
+      let len = same T (row s t) s (omega arith) in
+      let room1 : T + 1 < lent-triples one = rw len room in
+      record {
+        first = other (T + 1) (row one u) one room1 T (λ z. omega arith) ∙ own T (row s t) s (omega arith);
+        second = own (T + 1) (row one u) one room1 ∙ other T (row s t) s (omega arith) u (λ z. omega arith);
+        others = λ x m n. other (T + 1) (row one u) one room1 x n ∙ other T (row s t) s (omega arith) x m;
+        same-length = same (T + 1) (row one u) one room1 ∙ len;
+      }
+
+  -- as the steps do it: only where there are any
+  abbrev then : Bool → ℕ → ℕ → List A → List A
+  then there T t s = cond there (put T (row s t) s) s
+
+  copied-there : (there : Bool) (T T2 t u : ℕ) (s : List A) → T2 ≡ T + 1 → there ≡ true → T + 1 < lent-triples s → u < T → FacesCopied row T t u s (then there T2 u (then there T t s))
+  copied-there there T T2 t u s z y room b = rw (z, y) (copied-twice T t u s room b)
+
+  kept-without : (there : Bool) (T T2 t u : ℕ) (s : List A) → there ≡ false → then there T2 u (then there T t s) ≡ s
+  kept-without there T T2 t u s y = rw y
+
 -- two triangles inserted at c, which the search about the end has met
-module _ (l : Limits) (e v least : ℕ) (w : Growing) (g : Went l e v least w) (is-v : endOf (g .rows) e ≡ pos v) (c : ℕ) (c-not-e : c ≡ e → ⊥) (reached : Reached (g .rows) (move (g .rows) e) c) where
+module _ (l : Limits) (e v least : ℕ) (w : Growing) (g : Went l e v least w) (is-v : endOf (g .rows) e ≡ pos v) (c : ℕ) (meets : Meets (g .rows) e c) where
+  abbrev c-not-e : c ≡ e → ⊥
+  c-not-e = meets .not-edge
+
+  abbrev reached : Reached (g .rows) (move (g .rows) e) c
+  reached = (meets .moves, meets .there)
+
   abbrev H : ℕ
   H = g .H
 
@@ -145,6 +187,12 @@ module _ (l : Limits) (e v least : ℕ) (w : Growing) (g : Went l e v least w) (
   pairs1 : (k : ℕ) → pairOf rows1 k ≡ pairOf rows k
   pairs1 k = other-walk H N other H rows here (lh .in-use) pair (λ z. omega arith) (λ z. omega arith) k
 
+  props1 : (k : ℕ) → propOf rows1 k ≡ propOf rows k
+  props1 k = other-walk H N other H rows here (lh .in-use) prop (λ z. omega arith) (λ z. omega arith) k
+
+  behind1 : rows-from H rows1 ≡ rows-from H rows
+  behind1 = walk-below H N other H rows here (lh .in-use) thirds
+
   len1 : length rows1 ≡ length rows
   len1 = length-walk H N other H rows here (lh .in-use)
 
@@ -174,9 +222,11 @@ module _ (l : Limits) (e v least : ℕ) (w : Growing) (g : Went l e v least w) (
   unfolding update
   update-goes = rw there
 
-  -- no room; or rows in order, and the place where the search then stands is live
-  abbrev pub Stands : Stood → Type 0
-  Stands s = (s .growing .middle .run .how ≡ NoRoom) ⊎ ((n : Went l e v least (s .growing)) × Live (n .H) (n .rows) (s .place))
+  -- the search does not stand at the edge then: the triangle of c has three different corners
+  here-not-edge : here ≡ e → ⊥
+  here-not-edge z =
+      let k : next c ≡ partner rows e = sym (pair-involution H N rows thirds (g .in-order) (on lc)) ∙ ap (partner rows) z in
+      row lc .apart-31 (sym (row (on lc) .joined) ∙ ap (endOf rows) k ∙ row (g .e-live) .pair-end ∙ sym (meets .same-start))
 
   abbrev now : Growing
   now = growing (begin rows (g .positions) N) H (g .normals) (g .references)
@@ -298,7 +348,7 @@ module _ (l : Limits) (e v least : ℕ) (w : Growing) (g : Went l e v least w) (
         last-length = same-length H v N here other (next c) (next e) rows1 lent2 bh bo bc be apart here-e1 c1-here c1-other c1-e1 e1-other ∙ len1
 
         in-words : Inserts H N rows rows1 last (endOf rows e) here other (next c) (next e)
-        in-words = inserts H v N here other (next c) (next e) rows1 lent2 bh bo bc be apart here-e1 c1-here c1-other c1-e1 e1-other rows (endOf rows e) is-v (start1 lh here-end) (start1 lo other-end) pairs1
+        in-words = inserts H v N here other (next c) (next e) rows1 lent2 bh bo bc be apart here-e1 c1-here c1-other c1-e1 e1-other rows (endOf rows e) is-v (start1 lh here-end) (start1 lo other-end) pairs1 props1 behind1 len1
 
         lives : {h : ℕ} → Live H rows h → Live (H + 3 + 3) last h
         lives {h} x =
@@ -306,38 +356,100 @@ module _ (l : Limits) (e v least : ℕ) (w : Growing) (g : Went l e v least w) (
             let b = x .in-use in
             live-row-live (H + 3 + 3) last {N = N + 1} {h = h} (omega arith) (rw six r)
 
-        pub inserted-goes : (n : Went l e v least (insert l v c e now .growing)) × Live (n .H) (n .rows) here
-        inserted-goes = (
-          record {
-            rows = last;
-            positions = pos1;
-            N = N + 1;
-            H = H + 3 + 3;
-            normals = n2;
-            references = f2;
-            is = all-is;
-            fits = let f = g .fits in record {
-              thirds = omega (arith, f .thirds);
-              capacity-thirds = f .capacity-thirds;
-              within-capacity = omega (arith, room2);
-              lent = rw last-length (f .lent);
-              few = f .few;
-            };
-            vertices-in = let b = leb-false (l .vertices) N t in omega arith;
-            in-order = rw six (inserted H N rows thirds long (g .in-order) e c (g .e-live) lc c-not-e reached rows1 last told in-words);
-            e-live = lives (g .e-live);
-            v-in = let b = g .v-in in omega arith;
-            above = let b = g .above in omega arith;
-          },
-          lives lh,
-        )
+        lent-there : length pos1 ≡ length (g .positions)
+        lent-there = length-put N (triple (g .positions) v) (g .positions) (let r = g .vertices-fit in omega (arith, r .vertices-lent, leb-false (l .vertices) N t))
 
-  pub insert-stands : Stands (insert l v c e w)
-  insert-stands =
-      rw (g .is) (by-test (leb (l .vertices) N) (λ t. inl (vertex-full t)) (λ t.
-      by-test (leb (l .halfedges) H) (λ u. inl (none-first t u)) (λ u.
-      by-test (leb (l .halfedges) (H + 3)) (λ y. inl (none-second t u y)) (λ y. inr (stands-there t u y)))))
-    where
-      stands-there : (t : leb (l .vertices) N ≡ false) (u : leb (l .halfedges) H ≡ false) (y : leb (l .halfedges) (H + 3) ≡ false) →
-          (n : Went l e v least (insert l v c e now .growing)) × Live (n .H) (n .rows) (insert l v c e now .place)
-      stands-there t u y = let z : insert l v c e now .place ≡ here = ap (λ (s : Stood). s .place) (insert-is t) in rw z (inserted-goes t u y)
+        faces1 : FacesFit l n1 f1
+        faces1 = faces-then l v N here (next e) H rows1 pos1 (N + 1) (g .normals) (g .references) room1 (g .faces-fit)
+
+        inserted-goes : Went l e v least (insert l v c e now .growing)
+        inserted-goes = record {
+          rows = last;
+          positions = pos1;
+          N = N + 1;
+          H = H + 3 + 3;
+          normals = n2;
+          references = f2;
+          is = all-is;
+          fits = let f = g .fits in record {
+            thirds = omega (arith, f .thirds);
+            capacity-thirds = f .capacity-thirds;
+            within-capacity = omega (arith, room2);
+            lent = rw last-length (f .lent);
+            few = f .few;
+          };
+          vertices-fit = let r = g .vertices-fit in let b = leb-false (l .vertices) N t in record {
+            within-vertices = omega arith;
+            vertices-lent = rw lent-there (r .vertices-lent);
+            few-vertices = r .few-vertices;
+          };
+          faces-fit = faces-then l N v other (next e) (H + 3) P2 pos1 (N + 1) n1 f1 (omega (arith, room2)) faces1;
+          in-order = rw six (inserted H N rows thirds long (g .in-order) e c (g .e-live) lc c-not-e reached rows1 last told in-words);
+          e-live = lives (g .e-live);
+          v-in = let b = g .v-in in omega arith;
+          above = let b = g .above in omega arith;
+        }
+
+        -- the rows on the way have the copy
+        abbrev W : ℕ → Type 0
+        W k = OnWay rows here other k
+
+        on-way : {k : ℕ} → W k → (endOf rows1 k ≡ pos N) × (startOf rows1 (next k) ≡ pos N)
+        on-way {k} x = ⊎-elim (λ u. u .1) (λ u. absurd (u .0 x)) (told k)
+
+        off-way : {k : ℕ} → (W k → ⊥) → (endOf rows1 k ≡ endOf rows k) × (startOf rows1 (next k) ≡ startOf rows (next k))
+        off-way {k} n = ⊎-elim (λ u. absurd (n (u .0))) (λ u. u .1) (told k)
+
+        way-in : {k : ℕ} → W k → Live H rows k
+        way-in x = way-live H N rows thirds long (g .in-order) lh x
+
+        relabelled : Relabelled H N W Nobody rows last
+        relabelled = record {
+          these-ends = λ k x. in-words .ends k (way-in x .in-use) ∙ on-way x .0;
+          these-starts = λ k x. in-words .starts (next k) (on (way-in x) .in-use) ∙ on-way x .1;
+          those-ends = λ k x. absurd x;
+          those-starts = λ k x. absurd x;
+          other-ends = λ k b x y. in-words .ends k b ∙ off-way x .0;
+          other-starts = λ k b x y. in-words .starts (next k) (next-in k H b thirds) ∙ off-way x .1;
+        }
+
+        triangle-on : (H + 3) / 3 ≡ H / 3 + 1
+        triangle-on = omega arith
+
+        other-old : other / 3 < H / 3
+        other-old = omega (arith, bo, thirds)
+
+        insert-words : First l e v now (insert l v c e now .growing)
+        insert-words = rw all-is (record {
+          way = inl (
+            c,
+            record {
+              meets = meets;
+              count-is = six;
+              relabelled = relabelled;
+              triangles = in-words .triangles;
+              normals-copied = λ x. let f = g .faces-fit .normals-lent x in copied-there triple put-triple triple-put triple-other length-put (l .normals) (H / 3) ((H + 3) / 3) (here / 3) (other / 3) (g .normals) triangle-on x (omega (arith, room2)) other-old;
+              references-copied = λ x. let f = g .faces-fit .references-lent x in copied-there reference put-reference reference-put reference-other length-put-reference (l .references) (H / 3) ((H + 3) / 3) (here / 3) (other / 3) (g .references) triangle-on x (omega (arith, room2)) other-old;
+              normals-kept = λ x. kept-without triple put-triple triple-put triple-other length-put (l .normals) (H / 3) ((H + 3) / 3) (here / 3) (other / 3) (g .normals) x;
+              references-kept = λ x. kept-without reference put-reference reference-put reference-other length-put-reference (l .references) (H / 3) ((H + 3) / 3) (here / 3) (other / 3) (g .references) x;
+            },
+          );
+          vertices-are = refl;
+          positions-are = refl;
+        })
+
+        -- and the end is not copied besides
+        end-not-copied : copy-end l v e (insert l v c e now) ≡ insert l v c e now .growing
+        unfolding copy-end
+        end-not-copied = rw (insert-is, ne-eqb here e here-not-edge)
+
+  full-end : (s : Stood) → s .growing .middle .run .how ≡ NoRoom → copy-end l v e s .middle .run .how ≡ NoRoom
+  full-end s z = ap (λ (x : Growing). x .middle .run .how) (end-halted l e v least (s .growing) (s .place) (no-room-halts (s .growing) z)) ∙ z
+
+  pub insert-left : OutWith l e v least (First l e v w) (copy-end l v e (insert l v c e w))
+  insert-left =
+      subst (λ (x : Growing). OutWith l e v least (First l e v x) (copy-end l v e (insert l v c e x))) (sym (g .is))
+      (by-test (leb (l .vertices) N) (λ t. inl (full-end (insert l v c e now) (vertex-full t))) (λ t.
+      by-test (leb (l .halfedges) H) (λ u. inl (full-end (insert l v c e now) (none-first t u))) (λ u.
+      by-test (leb (l .halfedges) (H + 3)) (λ y. inl (full-end (insert l v c e now) (none-second t u y))) (λ y.
+      rw (end-not-copied t u y) (inr (inserted-goes t u y, insert-words t u y))))))

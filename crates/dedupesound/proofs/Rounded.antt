@@ -1,13 +1,13 @@
 -- dedupe_edges' rounds on rows in order: there is no room, or the rows are in order afterwards. They never stop.
-use mathlib.Core.Path.{_≡_, refl, sym, ap, _∙_, subst}
-use mathlib.Core.Bool.{Bool, true, false, cond, true≢false, _&&_, _||_, not}
+use mathlib.Core.Path.{_≡_, refl, sym, subst}
+use mathlib.Core.Bool.{true, false, cond, true≢false, _&&_, _||_, not}
 use mathlib.Core.List.{List, [], _∷_, _++_}
-use mathlib.Core.Logic.{_⊎_, inl, inr, ⊎-elim}
+use mathlib.Core.Logic.{_⊎_, inl, inr}
 use Prim.Native.Nat.{ℕ, zero, suc, _%_, _<_, _≤_}
 use native.Mathlib.Nat.{le-refl}
 use native.Mathlib.Omega.{arith}
 use lib.Dec.{eqb}
-use lib.IntN.{ℤ, pos}
+use lib.IntN.{ℤ}
 use lib.ListN.{take}
 use Rattle.laws.specs.Integers.{eqZ}
 use Rattle.laws.proofs.Tests.{by-test, and3}
@@ -18,9 +18,9 @@ use Rattle.numbers.proofs.NextLaws.{next-in}
 use Rattle.rows.specs.Halfedges.{endOf, pairOf, is-started, is-ended}
 use Rattle.net.specs.Sound.{end-vertex, InOrder, Live}
 use Rattle.net.proofs.Sound.{live-row}
-use Rattle.steps.specs.Steps.{is-refused, NoRoom, begin}
+use Rattle.steps.specs.Steps.{NoRoom, begin}
 use Rattle.growth.specs.declared.Limits.{Limits}
-use Rattle.growth.specs.Growth.{Growing, growing, rows-of, Fits, halted}
+use Rattle.growth.specs.Growth.{Growing, growing, rows-of, Fits, FacesFit, VerticesFit, halted}
 use Rattle.dedupe.specs.Dedupe.{dedupe-at}
 use Rattle.searches.specs.Duplicates.{turns, fan, is-duplicate, those, is-in, Search, search-row, search-rows, again, still}
 use Rattle.rounds.specs.Rounds.{fix, each, no-entry, to-do, rounds}
@@ -90,7 +90,8 @@ pub record Ordered (l : Limits) (least : ℕ) (w : Growing) : Type 0 where
   pub references : List ℤ
   pub is : w ≡ growing (begin rows positions N) H normals references
   pub fits : Fits l H rows
-  pub vertices-in : N ≤ l .vertices
+  pub vertices-fit : VerticesFit l N positions
+  pub faces-fit : FacesFit l normals references
   pub in-order : (h : ℕ) → h < H → InOrder H N rows h
   pub above : least ≤ H
 
@@ -99,7 +100,7 @@ Left l least w = (w .middle .run .how ≡ NoRoom) ⊎ Ordered l least w
 
 forget : {l : Limits} {e v least : ℕ} {w : Growing} → Out l e v least w → Left l least w
 forget (inl z) = inl z
-forget (inr g) = inr (record { rows = g .rows; positions = g .positions; N = g .N; H = g .H; normals = g .normals; references = g .references; is = g .is; fits = g .fits; vertices-in = g .vertices-in; in-order = g .in-order; above = g .above })
+forget (inr g) = inr (record { rows = g .rows; positions = g .positions; N = g .N; H = g .H; normals = g .normals; references = g .references; is = g .is; fits = g .fits; vertices-fit = g .vertices-fit; faces-fit = g .faces-fit; in-order = g .in-order; above = g .above })
 
 module _ (l : Limits) where
   one-goes : (least d : ℕ) (w : Growing) → d < least → Left l least w → Left l least (fix l d w)
@@ -120,7 +121,8 @@ module _ (l : Limits) where
         references = o .references;
         is = o .is;
         fits = o .fits;
-        vertices-in = o .vertices-in;
+        vertices-fit = o .vertices-fit;
+        faces-fit = o .faces-fit;
         in-order = o .in-order;
         e-live = k;
         v-in = live-row (o .H) (o .N) (o .rows) (o .fits .thirds) (o .in-order) k .end-in;
@@ -143,7 +145,7 @@ module _ (l : Limits) where
 
   raise : {least more : ℕ} {w : Growing} → least ≤ more → Left l more w → Left l least w
   raise b (inl z) = inl z
-  raise b (inr o) = inr (record { rows = o .rows; positions = o .positions; N = o .N; H = o .H; normals = o .normals; references = o .references; is = o .is; fits = o .fits; vertices-in = o .vertices-in; in-order = o .in-order; above = let a = o .above in omega arith })
+  raise b (inr o) = inr (record { rows = o .rows; positions = o .positions; N = o .N; H = o .H; normals = o .normals; references = o .references; is = o .is; fits = o .fits; vertices-fit = o .vertices-fit; faces-fit = o .faces-fit; in-order = o .in-order; above = let a = o .above in omega arith })
 
   pub rounds-goes : (least n : ℕ) (w : Growing) → Left l least w → Left l least (rounds l n w .growing)
   unfolding rounds
@@ -161,4 +163,4 @@ module _ (l : Limits) where
       listed = subst (λ (x : Growing). Below (o .H) (to-do l x)) (sym (o .is)) (below-take (o .H) (l .halfedges) _ (rows-below (o .H) (o .N) (o .rows) (o .fits .thirds) (o .H) (le-refl _)))
 
       again-there : Ordered l (o .H) w
-      again-there = record { rows = o .rows; positions = o .positions; N = o .N; H = o .H; normals = o .normals; references = o .references; is = o .is; fits = o .fits; vertices-in = o .vertices-in; in-order = o .in-order; above = le-refl _ }
+      again-there = record { rows = o .rows; positions = o .positions; N = o .N; H = o .H; normals = o .normals; references = o .references; is = o .is; fits = o .fits; vertices-fit = o .vertices-fit; faces-fit = o .faces-fit; in-order = o .in-order; above = le-refl _ }

@@ -1,22 +1,26 @@
 -- The rows that inserting leaves: two triangles appended behind H rows, each paired with a half-edge and its partner, and with one another.
-use mathlib.Core.Path.{_≡_, refl, sym, ap, _∙_}
+use mathlib.Core.Path.{_≡_, sym, ap, _∙_}
 use mathlib.Core.List.{List}
 use Prim.Native.Nat.{ℕ, _+_, _<_, _≤_}
 use native.Mathlib.Omega.{arith}
 use lib.IntN.{ℤ, pos}
 use lib.ListN.{length}
-use Rattle.rows.specs.Halfedges.{Column, start, end, pair, offset, column, startOf, endOf, pairOf, lent-halfedges, rows-from, append-triangle}
+use Rattle.rows.specs.Halfedges.{Column, start, end, pair, prop, offset, column, startOf, pairOf, propOf, lent-halfedges, rows-from, append-triangle}
 use Rattle.rows.proofs.Columns.{from-more}
 use Rattle.pairing.specs.Pairing.{PairedUp, paired}
 use Rattle.pairing.proofs.Told.{paired-up}
-use Rattle.growth.proofs.Triangle.{length-triangle, triangle-before, triangle-first, triangle-second, triangle-third}
-use Rattle.dedupesound.specs.Inserts.{NewRow, Inserts}
+use Rattle.growth.proofs.Triangle.{length-triangle, triangle-before, triangle-first, triangle-second, triangle-third, triangle-behind}
+use Rattle.dedupesound.specs.Deduped.{TwoTriangles}
+use Rattle.dedupesound.specs.Inserts.{Inserts}
 
 start-not-pair : start ≡ pair → ⊥
 start-not-pair z = let k : offset start ≡ offset pair = ap offset z in omega arith
 
 end-not-pair : end ≡ pair → ⊥
 end-not-pair z = let k : offset end ≡ offset pair = ap offset z in omega arith
+
+prop-not-pair : prop ≡ pair → ⊥
+prop-not-pair z = let k : offset prop ≡ offset pair = ap offset z in omega arith
 
 module _ (H v N here other c1 e1 : ℕ) (rows1 : List ℤ) (room : H + 6 ≤ lent-halfedges rows1) (bh : here < H) (bo : other < H) (bc : c1 < H) (be : e1 < H)
     (here-other : here ≡ other → ⊥) (here-e1 : here ≡ e1 → ⊥) (c1-here : c1 ≡ here → ⊥) (c1-other : c1 ≡ other → ⊥) (c1-e1 : c1 ≡ e1 → ⊥) (e1-other : e1 ≡ other → ⊥) where
@@ -114,46 +118,64 @@ module _ (H v N here other c1 e1 : ℕ) (rows1 : List ℤ) (room : H + 6 ≤ len
       ∙ u2 .other-rows pair other (λ z. omega arith) (λ z. here-other (sym z)) ∙ u1 .other-rows pair other (λ z. omega arith) (λ z. c1-other (sym z))
       ∙ triangle-before H v N here e1 rows1 roomA1 pair other bo
 
+  pub triangles-behind : rows-from (H + 6) two-triangles ≡ rows-from (H + 6) rows1
+  triangles-behind =
+      u5 .behind (H + 6) (omega arith) (omega arith) ∙ u4 .behind (H + 6) (omega arith) (omega arith) ∙ u3 .behind (H + 6) (omega arith) (omega arith)
+      ∙ from-more (H + 3 + 3) (H + 6) A2 P2 (omega arith) (triangle-behind (H + 3) N v other e1 P2 roomA2)
+      ∙ u2 .behind (H + 6) (omega arith) (omega arith) ∙ u1 .behind (H + 6) (omega arith) (omega arith)
+      ∙ from-more (H + 3) (H + 6) A1 rows1 (omega arith) (triangle-behind H v N here e1 rows1 roomA1)
+
   module _ (rows : List ℤ) (t : ℤ) (is-t : t ≡ pos v) (here-start : startOf rows1 here ≡ startOf rows here) (other-start : startOf rows1 other ≡ startOf rows other)
-      (pairs1 : (g : ℕ) → pairOf rows1 g ≡ pairOf rows g) where
-    pub inserts : Inserts H N rows rows1 two-triangles t here other c1 e1
-    inserts = record {
-      starts = λ g b. kept start start-not-pair g b;
-      ends = λ g b. kept end end-not-pair g b;
+      (pairs1 : (g : ℕ) → pairOf rows1 g ≡ pairOf rows g) (props1 : (g : ℕ) → propOf rows1 g ≡ propOf rows g)
+      (behind1 : rows-from H rows1 ≡ rows-from H rows) (length1 : length rows1 ≡ length rows) where
+    triangles : TwoTriangles H N t here other c1 e1 rows two-triangles
+    triangles = record {
       pair-here = pair-late here bh here-other here-e1 ∙ u2 .second-pair;
       pair-c1 = pair-late c1 bc c1-other c1-e1 ∙ u2 .other-rows pair c1 (λ z. omega arith) c1-here ∙ u1 .second-pair;
       pair-other = u5 .other-rows pair other (λ z. omega arith) (λ z. omega arith) ∙ u4 .second-pair ∙ ap pos (omega arith);
       pair-e1 = u5 .other-rows pair e1 (λ z. omega arith) (λ z. omega arith) ∙ u4 .other-rows pair e1 (λ z. omega arith) e1-other ∙ u3 .second-pair ∙ ap pos (omega arith);
       pairs = λ g b nh nc no' ne.
           pair-late g b no' ne ∙ u2 .other-rows pair g (λ z. omega arith) nh ∙ u1 .other-rows pair g (λ z. omega arith) nc ∙ triangle-before H v N here e1 rows1 roomA1 pair g b ∙ pairs1 g;
+      props = λ g b. kept prop prop-not-pair g b ∙ props1 g;
+      behind = triangles-behind ∙ from-more H (H + 6) rows1 rows (omega arith) behind1;
+      same-length = same-length ∙ length1;
       row-0 = record {
-        start-of = early start start-not-pair H (omega arith) ∙ triangle-first H v N here e1 rows1 roomA1 start ∙ sym is-t;
-        end-of = early end end-not-pair H (omega arith) ∙ triangle-first H v N here e1 rows1 roomA1 end;
-        pair-of = u5 .second-pair;
+        start-is = early start start-not-pair H (omega arith) ∙ triangle-first H v N here e1 rows1 roomA1 start ∙ sym is-t;
+        end-is = early end end-not-pair H (omega arith) ∙ triangle-first H v N here e1 rows1 roomA1 end;
+        pair-is = u5 .second-pair;
+        prop-is = early prop prop-not-pair H (omega arith) ∙ triangle-first H v N here e1 rows1 roomA1 prop ∙ props1 e1;
       };
       row-1 = record {
-        start-of = early start start-not-pair (H + 1) (omega arith) ∙ triangle-second H v N here e1 rows1 roomA1 start;
-        end-of = early end end-not-pair (H + 1) (omega arith) ∙ triangle-second H v N here e1 rows1 roomA1 end ∙ here-start;
-        pair-of = pair-new (H + 1) (omega arith) (omega arith) ∙ u2 .first-pair;
+        start-is = early start start-not-pair (H + 1) (omega arith) ∙ triangle-second H v N here e1 rows1 roomA1 start;
+        end-is = early end end-not-pair (H + 1) (omega arith) ∙ triangle-second H v N here e1 rows1 roomA1 end ∙ here-start;
+        pair-is = pair-new (H + 1) (omega arith) (omega arith) ∙ u2 .first-pair;
+        prop-is = early prop prop-not-pair (H + 1) (omega arith) ∙ triangle-second H v N here e1 rows1 roomA1 prop ∙ props1 e1;
       };
       row-2 = record {
-        start-of = early start start-not-pair (H + 2) (omega arith) ∙ triangle-third H v N here e1 rows1 roomA1 start ∙ here-start;
-        end-of = early end end-not-pair (H + 2) (omega arith) ∙ triangle-third H v N here e1 rows1 roomA1 end ∙ sym is-t;
-        pair-of = pair-new (H + 2) (omega arith) (omega arith) ∙ u2 .other-rows pair (H + 2) (λ z. omega arith) (λ z. omega arith) ∙ u1 .first-pair;
+        start-is = early start start-not-pair (H + 2) (omega arith) ∙ triangle-third H v N here e1 rows1 roomA1 start ∙ here-start;
+        end-is = early end end-not-pair (H + 2) (omega arith) ∙ triangle-third H v N here e1 rows1 roomA1 end ∙ sym is-t;
+        pair-is = pair-new (H + 2) (omega arith) (omega arith) ∙ u2 .other-rows pair (H + 2) (λ z. omega arith) (λ z. omega arith) ∙ u1 .first-pair;
+        prop-is = early prop prop-not-pair (H + 2) (omega arith) ∙ triangle-third H v N here e1 rows1 roomA1 prop ∙ props1 here;
       };
       row-3 = record {
-        start-of = late start start-not-pair (H + 3) ∙ triangle-first (H + 3) N v other e1 P2 roomA2 start;
-        end-of = late end end-not-pair (H + 3) ∙ triangle-first (H + 3) N v other e1 P2 roomA2 end ∙ sym is-t;
-        pair-of = u5 .first-pair;
+        start-is = late start start-not-pair (H + 3) ∙ triangle-first (H + 3) N v other e1 P2 roomA2 start;
+        end-is = late end end-not-pair (H + 3) ∙ triangle-first (H + 3) N v other e1 P2 roomA2 end ∙ sym is-t;
+        pair-is = u5 .first-pair;
+        prop-is = late prop prop-not-pair (H + 3) ∙ triangle-first (H + 3) N v other e1 P2 roomA2 prop ∙ before prop prop-not-pair e1 be ∙ props1 e1;
       };
       row-4 = let z : H + 4 ≡ H + 3 + 1 = omega arith in rw z (record {
-        start-of = late start start-not-pair (H + 3 + 1) ∙ triangle-second (H + 3) N v other e1 P2 roomA2 start ∙ sym is-t;
-        end-of = late end end-not-pair (H + 3 + 1) ∙ triangle-second (H + 3) N v other e1 P2 roomA2 end ∙ before start start-not-pair other bo ∙ other-start;
-        pair-of = u5 .other-rows pair (H + 3 + 1) (λ y. omega arith) (λ y. omega arith) ∙ u4 .first-pair;
+        start-is = late start start-not-pair (H + 3 + 1) ∙ triangle-second (H + 3) N v other e1 P2 roomA2 start ∙ sym is-t;
+        end-is = late end end-not-pair (H + 3 + 1) ∙ triangle-second (H + 3) N v other e1 P2 roomA2 end ∙ before start start-not-pair other bo ∙ other-start;
+        pair-is = u5 .other-rows pair (H + 3 + 1) (λ y. omega arith) (λ y. omega arith) ∙ u4 .first-pair;
+        prop-is = late prop prop-not-pair (H + 3 + 1) ∙ triangle-second (H + 3) N v other e1 P2 roomA2 prop ∙ before prop prop-not-pair e1 be ∙ props1 e1;
       });
       row-5 = let z : H + 5 ≡ H + 3 + 2 = omega arith in rw z (record {
-        start-of = late start start-not-pair (H + 3 + 2) ∙ triangle-third (H + 3) N v other e1 P2 roomA2 start ∙ before start start-not-pair other bo ∙ other-start;
-        end-of = late end end-not-pair (H + 3 + 2) ∙ triangle-third (H + 3) N v other e1 P2 roomA2 end;
-        pair-of = u5 .other-rows pair (H + 3 + 2) (λ y. omega arith) (λ y. omega arith) ∙ u4 .other-rows pair (H + 3 + 2) (λ y. omega arith) (λ y. omega arith) ∙ u3 .first-pair;
+        start-is = late start start-not-pair (H + 3 + 2) ∙ triangle-third (H + 3) N v other e1 P2 roomA2 start ∙ before start start-not-pair other bo ∙ other-start;
+        end-is = late end end-not-pair (H + 3 + 2) ∙ triangle-third (H + 3) N v other e1 P2 roomA2 end;
+        pair-is = u5 .other-rows pair (H + 3 + 2) (λ y. omega arith) (λ y. omega arith) ∙ u4 .other-rows pair (H + 3 + 2) (λ y. omega arith) (λ y. omega arith) ∙ u3 .first-pair;
+        prop-is = late prop prop-not-pair (H + 3 + 2) ∙ triangle-third (H + 3) N v other e1 P2 roomA2 prop ∙ before prop prop-not-pair other bo ∙ props1 other;
       });
     }
+
+    pub inserts : Inserts H N rows rows1 two-triangles t here other c1 e1
+    inserts = record { starts = λ g b. kept start start-not-pair g b; ends = λ g b. kept end end-not-pair g b; triangles = triangles }

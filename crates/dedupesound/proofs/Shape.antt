@@ -1,12 +1,11 @@
 -- The shape of a net that has grown: half-edges and triangles grow together, normals and references follow them, and all are within
 -- the lent arrays and the bounds.
-use mathlib.Core.Path.{_≡_, refl, sym, ap, _∙_}
-use mathlib.Core.Bool.{true, false}
+use mathlib.Core.Path.{_≡_, refl}
 use mathlib.Core.List.{List}
-use mathlib.Core.Logic.{_⊎_, inl, inr, ⊎-elim}
-use Prim.Native.Nat.{ℕ, _*_, _/_, _%_, _≤_}
+use mathlib.Core.Logic.{_⊎_, inl, inr}
+use Prim.Native.Nat.{ℕ, _/_, _%_, _≤_}
 use native.Mathlib.Omega.{arith}
-use borrow.Author.Tests.{eqb-true, eqb-false, eq-eqb, ne-eqb}
+use borrow.Author.Tests.{eqb-false}
 use lib.Dec.{eqb}
 use lib.IntN.{ℤ}
 use Rattle.laws.proofs.Tests.{by-test}
@@ -15,7 +14,7 @@ use Rattle.rows.specs.Halfedges.{lent-halfedges}
 use Rattle.rows.specs.Triples.{lent-triples}
 use Rattle.net.specs.declared.Counts.{Counts}
 use Rattle.net.specs.Net.{Net, net}
-use Rattle.net.specs.Counts.{most-vertices, most-triangles, triangles, triangles-for, triangle-capacity-over, vertex-capacity-over, property-capacity-over, Shaped}
+use Rattle.net.specs.Counts.{most-vertices, most-triangles, triangles-for, triangle-capacity-over, vertex-capacity-over, property-capacity-over, Shaped}
 use Rattle.dedupesound.specs.Grown.{faces-for, with-growth}
 
 -- none, or one for each triangle
