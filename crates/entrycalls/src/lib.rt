@@ -1,11 +1,11 @@
 // The exported functions called on stored calls: each prints what it says, and the buffers that it was lent as they are left.
 use calltext::show;
-use station::LoopAnswer;
-use station::OwnersAnswer;
-use station::Point;
-use station::RowAnswer;
-use station::SplitAnswer;
-use station::Used;
+use told::LoopAnswer;
+use told::OwnersAnswer;
+use told::Point;
+use told::RowAnswer;
+use told::SplitAnswer;
+use told::Used;
 
 pub fn next_halfedge(numbers: &[i32; 8]) {
     let told = station::spoonferret_next_halfedge(numbers[0]);

@@ -7,7 +7,7 @@
 // asked; then the choice; then a list for each buffer that the entry takes.
 use calltext::scan;
 use calltext::show;
-use station::Used;
+use told::Used;
 
 fn used_of(counts: &[u64; 6]) -> Used {
     Used {

@@ -12,119 +12,18 @@ ghost use Rattle.walks.specs.UpdateVert.{updateVert};
 ghost use Rattle.triangles.specs.CollapseTri.{collapseTri};
 ghost use Rattle.folds.specs.RemoveIfFolded.{removeIfFolded};
 ghost use Rattle.loops.specs.FormLoop.{formLoop};
-ghost use Rattle.station.specs.Told.{told, next-told, tri-told, length-told, row-told, and-left, split-left, owners-left, loop-left, counts-of, vector-of, eligible-of};
-
-mod told;
-
-use floats::Vec3;
-use owners::Eligible;
-
-// How many rows of each array are in use, and how many numbers a property row has.
-#[repr(C)]
-pub struct Used {
-    pub halfedges: usize,
-    pub vertices: usize,
-    pub normals: usize,
-    pub references: usize,
-    pub properties: usize,
-    pub num_prop: usize,
-}
-
-#[repr(C)]
-pub struct Point {
-    pub x: f64,
-    pub y: f64,
-    pub z: f64,
-}
-
-#[repr(C)]
-pub struct Answer {
-    pub number: u32,
-}
-
-#[repr(C)]
-pub struct NextAnswer {
-    pub number: u32,
-    pub next: i32,
-}
-
-#[repr(C)]
-pub struct TriAnswer {
-    pub number: u32,
-    pub first: i32,
-    pub second: i32,
-    pub third: i32,
-}
-
-// The squared length and the limit are bit patterns.
-#[repr(C)]
-pub struct LengthAnswer {
-    pub number: u32,
-    pub squared_length: u64,
-    pub limit: u64,
-}
-
-#[repr(C)]
-pub struct RowAnswer {
-    pub number: u32,
-    pub row: usize,
-}
-
-// How many vertices were added and half-edges visited.
-#[repr(C)]
-pub struct SplitAnswer {
-    pub number: u32,
-    pub row: usize,
-    pub added: usize,
-    pub steps: usize,
-}
-
-// How many half-edges were listed.
-#[repr(C)]
-pub struct OwnersAnswer {
-    pub number: u32,
-    pub count: usize,
-}
-
-// How many vertices are in use afterwards.
-#[repr(C)]
-pub struct LoopAnswer {
-    pub number: u32,
-    pub row: usize,
-    pub vertices: usize,
-}
-
-fn counts_of(used: Used) -> net::Counts
-    ensures { λ r. ⌜ r ≡ counts-of used ⌝ }
-{
-    net::Counts {
-        halfedges: used.halfedges,
-        vertices: used.vertices,
-        normals: used.normals,
-        references: used.references,
-        properties: used.properties,
-        num_prop: used.num_prop,
-    }
-}
-
-fn vector_of(point: Point) -> Vec3
-    ensures { λ r. ⌜ r ≡ vector-of point ⌝ }
-{
-    Vec3 {
-        x: point.x,
-        y: point.y,
-        z: point.z,
-    }
-}
-
-fn eligible_of(end_too: bool) -> Eligible
-    ensures { λ r. ⌜ r ≡ eligible-of «end_too» ⌝ }
-{
-    if end_too {
-        return Eligible::StartAndEnd;
-    }
-    Eligible::Start
-}
+ghost use Rattle.told.specs.Told.{told, next-told, tri-told, length-told, row-told, counts-of, vector-of, eligible-of};
+ghost use Rattle.station.specs.Left.{and-left, split-left, owners-left, loop-left};
+use told::Answer;
+use told::LengthAnswer;
+use told::LoopAnswer;
+use told::NextAnswer;
+use told::OwnersAnswer;
+use told::Point;
+use told::RowAnswer;
+use told::SplitAnswer;
+use told::TriAnswer;
+use told::Used;
 
 #[no_mangle]
 pub extern "C" fn spoonferret_next_halfedge(h: i32) -> NextAnswer
@@ -152,8 +51,8 @@ pub extern "C" fn spoonferret_short_test(
     ensures { λ r. ⌜ r ≡ length-told (shortTest (vector-of from) (vector-of to) «end_vert» «first_new_vert» tol epsilon) ⌝ }
 {
     told::of_length(floats::short_test(
-        vector_of(from),
-        vector_of(to),
+        told::vector_of(from),
+        told::vector_of(to),
         end_vert,
         first_new_vert,
         tol,
@@ -173,7 +72,7 @@ pub extern "C" fn spoonferret_check_net(
     ensures { λ r. ⌜ r ≡ row-told (checkNet (counts-of used) (net (now (halfedges .entry)) (now (positions .entry)) (now (normals .entry)) (now (references .entry)) (now (properties .entry)))) ⌝ }
 {
     told::of_check(soundness::check_net(
-        counts_of(used),
+        told::counts_of(used),
         halfedges,
         positions,
         normals,
@@ -196,7 +95,7 @@ pub extern "C" fn spoonferret_pair_up(
     ensures { λ r. ⌜ (r, now (halfedges .exit)) ≡ and-left told (pairUp (counts-of used) (net (now (halfedges .entry)) (now (positions .entry)) (now (normals .entry)) (now (references .entry)) (now (properties .entry))) first second) ⌝ }
 {
     told::of_pair(pairing::pair_up(
-        counts_of(used),
+        told::counts_of(used),
         halfedges,
         positions,
         normals,
@@ -222,7 +121,7 @@ pub extern "C" fn spoonferret_update_vert(
     ensures { λ r. ⌜ (r, now (halfedges .exit)) ≡ and-left row-told (updateVert (counts-of used) (net (now (halfedges .entry)) (now (positions .entry)) (now (normals .entry)) (now (references .entry)) (now (properties .entry))) vertex start end) ⌝ }
 {
     told::of_update(walks::update_vert(
-        counts_of(used),
+        told::counts_of(used),
         halfedges,
         positions,
         normals,
@@ -247,7 +146,7 @@ pub extern "C" fn spoonferret_collapse_tri(
     ensures { λ r. ⌜ (r, now (halfedges .exit)) ≡ and-left row-told (collapseTri (counts-of used) (net (now (halfedges .entry)) (now (positions .entry)) (now (normals .entry)) (now (references .entry)) (now (properties .entry))) halfedge) ⌝ }
 {
     told::of_collapse(triangles::collapse_tri(
-        counts_of(used),
+        told::counts_of(used),
         halfedges,
         positions,
         normals,
@@ -270,7 +169,7 @@ pub extern "C" fn spoonferret_remove_if_folded(
     ensures { λ r. ⌜ (r, (now (halfedges .exit), now (positions .exit))) ≡ and-left row-told (removeIfFolded (counts-of used) (net (now (halfedges .entry)) (now (positions .entry)) (now (normals .entry)) (now (references .entry)) (now (properties .entry))) halfedge) ⌝ }
 {
     told::of_remove(folds::remove_if_folded(
-        counts_of(used),
+        told::counts_of(used),
         halfedges,
         positions,
         normals,
@@ -297,7 +196,7 @@ pub extern "C" fn spoonferret_form_loop(
         ≡ loop-left (formLoop (counts-of used) (net (now (halfedges .entry)) (now (positions .entry)) (now (normals .entry)) (now (references .entry)) (now (properties .entry))) (now («spare_halfedges» .entry)) (now («spare_positions» .entry)) first second) ⌝ }
 {
     told::of_loop(loops::form_loop(
-        counts_of(used),
+        told::counts_of(used),
         halfedges,
         positions,
         normals,
@@ -326,7 +225,7 @@ pub extern "C" fn spoonferret_orbit_owners(
         ≡ owners-left (orbitOwners (eligible-of «end_too») (counts-of used) (net (now (halfedges .entry)) (now (positions .entry)) (now (normals .entry)) (now (references .entry)) (now (properties .entry))) (now (work .entry)) (now (list .entry))) ⌝ }
 {
     told::of_owners(owners::orbit_owners(
-        counts_of(used),
+        told::counts_of(used),
         halfedges,
         positions,
         normals,
@@ -334,7 +233,7 @@ pub extern "C" fn spoonferret_orbit_owners(
         properties,
         work,
         list,
-        eligible_of(end_too),
+        told::eligible_of(end_too),
     ))
 }
 
@@ -353,7 +252,7 @@ pub extern "C" fn spoonferret_split_pinched_verts(
         ≡ split-left (splitPinched (counts-of used) (net (now (halfedges .entry)) (now (positions .entry)) (now (normals .entry)) (now (references .entry)) (now (properties .entry))) (now (work .entry)) (now (visit .entry))) ⌝ }
 {
     told::of_split(split::split_pinched_verts(
-        counts_of(used),
+        told::counts_of(used),
         halfedges,
         positions,
         normals,

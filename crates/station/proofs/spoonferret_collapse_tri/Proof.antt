@@ -1,7 +1,8 @@
 -- `station::spoonferret_collapse_tri` meets its contract: it tells what `triangles::collapse_tri` says, and the arrays are as that leaves them.
 use mathlib.Core.Path.{ap}
 use mir.Facts.{toZ-ofZ}
-use Rattle.station.specs.Told.{and-left, row-told}
+use Rattle.told.specs.Told.{row-told}
+use Rattle.station.specs.Left.{and-left}
 use borrow.Author.Needs.{needs}
 use Rattle.station.proofs.spoonferret_collapse_tri.Statement.{statement}
 use Rattle.station.proofs.spoonferret_collapse_tri.Tie as tie

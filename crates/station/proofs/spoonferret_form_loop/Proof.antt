@@ -1,7 +1,7 @@
 -- `station::spoonferret_form_loop` meets its contract: it tells what `loops::form_loop` says, and the arrays are as that leaves them.
 use mathlib.Core.Path.{ap}
 use mir.Facts.{toZ-ofZ}
-use Rattle.station.specs.Told.{loop-left}
+use Rattle.station.specs.Left.{loop-left}
 use borrow.Author.Needs.{needs}
 use Rattle.station.proofs.spoonferret_form_loop.Statement.{statement}
 use Rattle.station.proofs.spoonferret_form_loop.Tie as tie

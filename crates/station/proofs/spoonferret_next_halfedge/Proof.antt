@@ -1,7 +1,7 @@
 -- `station::spoonferret_next_halfedge` meets its contract: it tells what `numbers::next_halfedge` says.
 use mathlib.Core.Path.{ap}
 use mir.Facts.{toZ-ofZ}
-use Rattle.station.specs.Told.{next-told}
+use Rattle.told.specs.Told.{next-told}
 use borrow.Author.Needs.{needs}
 use Rattle.station.proofs.spoonferret_next_halfedge.Statement.{statement}
 use Rattle.station.proofs.spoonferret_next_halfedge.Tie as tie

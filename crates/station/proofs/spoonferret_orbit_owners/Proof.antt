@@ -1,6 +1,6 @@
 -- `station::spoonferret_orbit_owners` meets its contract: it tells what `owners::orbit_owners` says, and the arrays are as that leaves them.
 use mathlib.Core.Path.{ap}
-use Rattle.station.specs.Told.{owners-left}
+use Rattle.station.specs.Left.{owners-left}
 use borrow.Author.Needs.{needs}
 use Rattle.station.proofs.spoonferret_orbit_owners.Statement.{statement}
 use Rattle.station.proofs.spoonferret_orbit_owners.Tie as tie

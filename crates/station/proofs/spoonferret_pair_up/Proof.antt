@@ -1,7 +1,8 @@
 -- `station::spoonferret_pair_up` meets its contract: it tells what `pairing::pair_up` says, and the arrays are as that leaves them.
 use mathlib.Core.Path.{ap}
 use mir.Facts.{toZ-ofZ}
-use Rattle.station.specs.Told.{and-left, told}
+use Rattle.told.specs.Told.{told}
+use Rattle.station.specs.Left.{and-left}
 use borrow.Author.Needs.{needs}
 use Rattle.station.proofs.spoonferret_pair_up.Statement.{statement}
 use Rattle.station.proofs.spoonferret_pair_up.Tie as tie

@@ -1,7 +1,7 @@
 -- `station::spoonferret_short_test` meets its contract: it tells what `floats::short_test` says.
 use mathlib.Core.Path.{ap}
 use mir.Facts.{toZ-ofZ}
-use Rattle.station.specs.Told.{length-told}
+use Rattle.told.specs.Told.{length-told}
 use borrow.Author.Needs.{needs}
 use Rattle.station.proofs.spoonferret_short_test.Statement.{statement}
 use Rattle.station.proofs.spoonferret_short_test.Tie as tie

@@ -1,6 +1,6 @@
 -- `station::spoonferret_split_pinched_verts` meets its contract: it tells what `split::split_pinched_verts` says, and the arrays are as that leaves them.
 use mathlib.Core.Path.{ap}
-use Rattle.station.specs.Told.{split-left}
+use Rattle.station.specs.Left.{split-left}
 use borrow.Author.Needs.{needs}
 use Rattle.station.proofs.spoonferret_split_pinched_verts.Statement.{statement}
 use Rattle.station.proofs.spoonferret_split_pinched_verts.Tie as tie

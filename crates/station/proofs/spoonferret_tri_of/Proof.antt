@@ -1,7 +1,7 @@
 -- `station::spoonferret_tri_of` meets its contract: it tells what `numbers::tri_of` says.
 use mathlib.Core.Path.{ap}
 use mir.Facts.{toZ-ofZ}
-use Rattle.station.specs.Told.{tri-told}
+use Rattle.told.specs.Told.{tri-told}
 use borrow.Author.Needs.{needs}
 use Rattle.station.proofs.spoonferret_tri_of.Statement.{statement}
 use Rattle.station.proofs.spoonferret_tri_of.Tie as tie

@@ -1,0 +1,25 @@
+-- What each exported function tells its caller, beside what it leaves in the arrays that it may write.
+use mathlib.Core.List.{List}
+use Prim.Native.Nat.{ℕ}
+use lib.IntN.{ℤ}
+use Rattle.answers.specs.Answers.{Said}
+use Rattle.told.specs.declared.SplitAnswer.{SplitAnswer}
+use Rattle.told.specs.declared.OwnersAnswer.{OwnersAnswer}
+use Rattle.told.specs.declared.LoopAnswer.{LoopAnswer}
+use Rattle.told.specs.Told.{split-told, owners-told, loop-told}
+use Rattle.owners.specs.Scan as owners
+use Rattle.loops.specs.FormLoop.{Left}
+use Rattle.splitting.specs.Split.{Outcome}
+
+-- of an entry whose model is what is said and what is left
+abbrev pub and-left : {A B : Type 0} → (Said → B) → Said × A → B × A
+and-left tell (s, left) = (tell s, left)
+
+abbrev pub split-left : Outcome → SplitAnswer × List ℤ × List ℕ × List ℕ × List ℕ
+split-left o = (split-told (o .said), o .halfedges, o .positions, o .work, o .visit)
+
+abbrev pub owners-left : owners.Outcome → OwnersAnswer × List ℕ × List ℕ
+owners-left o = (owners-told (o .said), o .work, o .list)
+
+abbrev pub loop-left : Left → LoopAnswer × List ℤ × List ℕ × List ℤ × List ℕ
+loop-left o = (loop-told (o .said), o .halfedges, o .positions, o .saved, o .held)
