@@ -11,13 +11,13 @@ use Rattle.steps.specs.Steps.{Middle, refused, Stopped, ended}
 use Rattle.walks.specs.Walk.{onward, update}
 use Rattle.triangles.specs.Triangles.{collapse}
 use Rattle.folds.specs.Folds.{lose, fold}
-use Rattle.rings.specs.Ring.{Ring, ringed, endless, ring, Spun, spin}
+use Rattle.rings.specs.Ring.{Listing, ringed, endless, ring, Spun, spin}
 
 -- ---- all of it
 unfoldable pub close : ℕ → ℕ → ℕ → Spun → Middle
 close H v e s = fold H (s .start) (collapse H e (update H v (s .start) (next (next e)) (s .middle)))
 
-abbrev pub with-ring : ℕ → ℕ → Bool → List ℤ → ℕ → ℕ → ℕ → ℕ → Middle → Ring → Middle
+abbrev pub with-ring : ℕ → ℕ → Bool → List ℤ → ℕ → ℕ → ℕ → ℕ → Middle → Listing → Middle
 with-ring H capacity props references v e p first m endless = ended Stopped m
 with-ring H capacity props references v e p first m (ringed l) =
     close H v e (spin (length l) (record { halfedges = H; capacity = capacity; props = props; references = references; edge = e; partner = p; list = l })
