@@ -17,25 +17,24 @@ use Rattle.growth.specs.declared.Grown.{Grown}
 use Rattle.growth.specs.declared.Limits.{Limits}
 use Rattle.growth.specs.Growth.{growing}
 use Rattle.settling.specs.Settling.{limits-of, begun, Settles}
-use Rattle.settling.proofs.Kept.{Ready, Grew}
+use Rattle.settling.proofs.Kept.{Fitting, Grew}
 
-pub begun-ready : (c : Counts) (n : Net) → Shaped c n → Ready (limits-of c n) (begun (c .halfedges) (c .vertices) (n .halfedges) (n .positions) (n .normals) (n .references))
-begun-ready c n s =
+pub begun-fits : (c : Counts) (n : Net) → Shaped c n → Fitting (limits-of c n) (begun (c .halfedges) (c .vertices) (n .halfedges) (n .positions) (n .normals) (n .references))
+begun-fits c n s =
     let k = capacities c n in
     record {
-      fits = record {
+      rows-fit = record {
         thirds = s .thirds;
         capacity-thirds = omega arith;
         within-capacity = s .halfedges-fit;
         lent = k .halfedges-lent;
         few = k .halfedges-most;
       };
-      faces = record {
+      faces-fit = record {
         normals-lent = λ t. let z = ltb-true 0 (c .normals) t in let y = k .normals-lent (λ e. omega arith) in omega arith;
         references-lent = λ t. let z = ltb-true 0 (c .references) t in let y = k .references-lent (λ e. omega arith) in omega arith;
       };
-      vertices-within = s .vertices-fit;
-      vertices-lent = k .vertices-lent;
+      vertices-fit = record { within-vertices = s .vertices-fit; vertices-lent = k .vertices-lent; few-vertices = k .vertices-most };
     }
 
 -- what has grown from it, with a spare for what was in use
@@ -46,9 +45,9 @@ grew-settles saved held g hs hp k = record {
   rows-saved = hs;
   positions-held = hp;
   halfedges-grow = k .grows .count-grows;
-  halfedges-lent = omega (arith, k .ready .fits .within-capacity, k .ready .fits .lent);
+  halfedges-lent = omega (arith, k .fitting .rows-fit .within-capacity, k .fitting .rows-fit .lent);
   vertices-grow = k .grows .vertices-grow;
-  vertices-lent = omega (arith, k .ready .vertices-within, k .ready .vertices-lent);
-  normals-lent = λ t. omega (arith, k .ready .fits .within-capacity, k .ready .faces .normals-lent t);
-  references-lent = λ t. omega (arith, k .ready .fits .within-capacity, k .ready .faces .references-lent t);
+  vertices-lent = omega (arith, k .fitting .vertices-fit .within-vertices, k .fitting .vertices-fit .vertices-lent);
+  normals-lent = λ t. omega (arith, k .fitting .rows-fit .within-capacity, k .fitting .faces-fit .normals-lent t);
+  references-lent = λ t. omega (arith, k .fitting .rows-fit .within-capacity, k .fitting .faces-fit .references-lent t);
 }

@@ -24,7 +24,7 @@ use Rattle.walks.specs.Walk.{onward, moved, walk, update}
 use Rattle.walks.proofs.Kept.{length-moved, moved-below, frame-update}
 use Rattle.loops.specs.Loops.{append}
 use Rattle.growth.specs.declared.Limits.{Limits}
-use Rattle.growth.specs.Growth.{Growing, growing, rows-of, halted, inside, halt, Fits, FacesFit, add, join, face, beside, relabel, copy-of, copy-round}
+use Rattle.growth.specs.Growth.{Growing, growing, rows-of, halted, inside, halt, Fits, FacesFit, VerticesFit, add, join, face, beside, relabel, copy-of, copy-round}
 use Rattle.growth.proofs.Fit.{grown-fits}
 use Rattle.growth.proofs.Triangle.{length-triangle, triangle-behind}
 use Rattle.settling.proofs.Appended.{Appended, appended-none, appended-put}
@@ -79,81 +79,83 @@ copy-frame {H} capacity v m within lent =
         (record { rows-free = refl; rows-lent = refl; grows = omega arith; positions-free = triples-behind (m .run .vertices) (triple (m .positions) v) (m .positions) room; positions-lent = length-put (m .run .vertices) (triple (m .positions) v) (m .positions) room }, omega arith)
 
 -- ---- a net that grows: within what there can be, and that is lent
-pub record Ready (l : Limits) (w : Growing) : Type 0 where
-  pub fits : Fits l (w .count) (rows-of w)
-  pub faces : FacesFit l (w .normals) (w .references)
-  pub vertices-within : w .middle .run .vertices ≤ l .vertices
-  pub vertices-lent : l .vertices ≤ lent-triples (w .middle .positions)
+pub record Fitting (l : Limits) (w : Growing) : Type 0 where
+  pub rows-fit : Fits l (w .count) (rows-of w)
+  pub vertices-fit : VerticesFit l (w .middle .run .vertices) (w .middle .positions)
+  pub faces-fit : FacesFit l (w .normals) (w .references)
 
 pub record Grew (l : Limits) (a b : Growing) : Type 0 where
   pub grows : Grows l a b
-  pub ready : Ready l b
+  pub fitting : Fitting l b
 
 module _ (l : Limits) where
-  pub grew-same : (w : Growing) → Ready l w → Grew l w w
-  grew-same w r = record { grows = grows-same w; ready = r }
+  pub grew-same : (w : Growing) → Fitting l w → Grew l w w
+  grew-same w r = record { grows = grows-same w; fitting = r }
 
   pub grew-trans : {a b c : Growing} → Grew l a b → Grew l b c → Grew l a c
-  grew-trans f g = record { grows = grows-trans (f .grows) (g .grows); ready = g .ready }
+  grew-trans f g = record { grows = grows-trans (f .grows) (g .grows); fitting = g .fitting }
 
   -- what grows stays within what there can be, where its counts do
-  grown-ready : {a b : Growing} → Ready l a → Grows l a b → b .count % 3 ≡ 0 → b .count ≤ l .halfedges → b .middle .run .vertices ≤ l .vertices → Ready l b
-  grown-ready r g thirds within few = record {
-    fits = record {
+  grown-fitting : {a b : Growing} → Fitting l a → Grows l a b → b .count % 3 ≡ 0 → b .count ≤ l .halfedges → b .middle .run .vertices ≤ l .vertices → Fitting l b
+  grown-fitting r g thirds within few = record {
+    rows-fit = record {
       thirds = thirds;
-      capacity-thirds = r .fits .capacity-thirds;
+      capacity-thirds = r .rows-fit .capacity-thirds;
       within-capacity = within;
-      lent = omega (arith, r .fits .lent, g .rows-lent);
-      few = r .fits .few;
+      lent = omega (arith, r .rows-fit .lent, g .rows-lent);
+      few = r .rows-fit .few;
     };
-    faces = record {
-      normals-lent = λ t. omega (arith, r .faces .normals-lent t, g .normals-grow .lent);
-      references-lent = λ t. omega (arith, r .faces .references-lent t, g .references-grow .lent);
+    faces-fit = record {
+      normals-lent = λ t. omega (arith, r .faces-fit .normals-lent t, g .normals-grow .lent);
+      references-lent = λ t. omega (arith, r .faces-fit .references-lent t, g .references-grow .lent);
     };
-    vertices-within = few;
-    vertices-lent = omega (arith, r .vertices-lent, g .positions-lent);
+    vertices-fit = record {
+      within-vertices = few;
+      vertices-lent = omega (arith, r .vertices-fit .vertices-lent, g .positions-lent);
+      few-vertices = r .vertices-fit .few-vertices;
+    };
   }
 
-  pub inside-grew : (f : Middle → Middle) (w : Growing) → Ready l w → Frame (w .count) (w .middle) (f (w .middle)) → f (w .middle) .run .vertices ≤ l .vertices → Grew l w (inside f w)
+  pub inside-grew : (f : Middle → Middle) (w : Growing) → Fitting l w → Frame (w .count) (w .middle) (f (w .middle)) → f (w .middle) .run .vertices ≤ l .vertices → Grew l w (inside f w)
   inside-grew f w r k b =
       let g = inside-grows f w k in
-      record { grows = g; ready = grown-ready r g (r .fits .thirds) (r .fits .within-capacity) b }
+      record { grows = g; fitting = grown-fitting r g (r .rows-fit .thirds) (r .rows-fit .within-capacity) b }
 
-  pub stays-grew : (f : Middle → Middle) (w : Growing) → Ready l w → Stays (w .count) (w .middle) (f (w .middle)) → Grew l w (inside f w)
-  stays-grew f w r s = inside-grew f w r (s .0) (omega (arith, s .1, r .vertices-within))
+  pub stays-grew : (f : Middle → Middle) (w : Growing) → Fitting l w → Stays (w .count) (w .middle) (f (w .middle)) → Grew l w (inside f w)
+  stays-grew f w r s = inside-grew f w r (s .0) (omega (arith, s .1, r .vertices-fit .within-vertices))
 
-  pub halt-grew : (w : Growing) → Ready l w → Grew l w (halt w)
-  halt-grew w r = inside-grew (ended Stopped) w r (frame-ended (w .middle) Stopped) (r .vertices-within)
+  pub halt-grew : (w : Growing) → Fitting l w → Grew l w (halt w)
+  halt-grew w r = inside-grew (ended Stopped) w r (frame-ended (w .middle) Stopped) (r .vertices-fit .within-vertices)
 
   -- a step: nothing where an earlier one has refused
-  pub grew-step : (w a : Growing) → Ready l w → (halted w ≡ false → Grew l w a) → Grew l w (cond (halted w) w a)
+  pub grew-step : (w a : Growing) → Fitting l w → (halted w ≡ false → Grew l w a) → Grew l w (cond (halted w) w a)
   grew-step w a r f = by-test (halted w) (λ t. rw t (grew-same w r)) (λ t. rw t (f t))
 
-  pub copy-of-grew : (v : ℕ) (w : Growing) → Ready l w → Grew l w (inside (copy-of (l .vertices) v) w)
+  pub copy-of-grew : (v : ℕ) (w : Growing) → Fitting l w → Grew l w (inside (copy-of (l .vertices) v) w)
   copy-of-grew v w r =
-      let k = copy-frame (l .vertices) v (w .middle) (r .vertices-within) (r .vertices-lent) in
+      let k = copy-frame (l .vertices) v (w .middle) (r .vertices-fit .within-vertices) (r .vertices-fit .vertices-lent) in
       inside-grew (copy-of (l .vertices) v) w r (k .0) (k .1)
 
-  pub copy-round-grew : (v h : ℕ) (w : Growing) → Ready l w → Grew l w (copy-round l v h w)
+  pub copy-round-grew : (v h : ℕ) (w : Growing) → Fitting l w → Grew l w (copy-round l v h w)
   unfolding copy-round
   copy-round-grew v h w r =
       let g = copy-of-grew v w r in
-      grew-trans g (stays-grew (relabel (w .count) (w .middle .run .vertices) h) (inside (copy-of (l .vertices) v) w) (g .ready) (relabel-stays (w .count) (w .middle .run .vertices) h (copy-of (l .vertices) v (w .middle)) (r .fits .thirds)))
+      grew-trans g (stays-grew (relabel (w .count) (w .middle .run .vertices) h) (inside (copy-of (l .vertices) v) w) (g .fitting) (relabel-stays (w .count) (w .middle .run .vertices) h (copy-of (l .vertices) v (w .middle)) (r .rows-fit .thirds)))
 
   -- two rows in use are paired
-  pub pair-grew : (a b : ℕ) (w : Growing) → Ready l w → a < w .count → b < w .count → Grew l w (inside (with-rows (paired a b (rows-of w))) w)
+  pub pair-grew : (a b : ℕ) (w : Growing) → Fitting l w → a < w .count → b < w .count → Grew l w (inside (with-rows (paired a b (rows-of w))) w)
   pair-grew a b w r ha hb =
-      let x = paired-up a b (rows-of w) (omega (arith, r .fits .within-capacity, r .fits .lent)) (omega (arith, r .fits .within-capacity, r .fits .lent)) in
+      let x = paired-up a b (rows-of w) (omega (arith, r .rows-fit .within-capacity, r .rows-fit .lent)) (omega (arith, r .rows-fit .within-capacity, r .rows-fit .lent)) in
       stays-grew (with-rows (paired a b (rows-of w))) w r (frame-rows (w .middle) (paired a b (rows-of w)) (w .middle .run .how) (x .behind (w .count) ha hb) (x .same-length), refl)
 
   -- ---- a triangle
-  module _ (a b h e : ℕ) (w : Growing) (r : Ready l w) where
+  module _ (a b h e : ℕ) (w : Growing) (r : Fitting l w) where
     abbrev more : Growing
     more = growing (with-rows (append-triangle (w .count) a b h e (rows-of w)) (w .middle)) (w .count + 3) (w .normals) (w .references)
 
     added-grew : w .count < l .halfedges → Grew l w more
     added-grew c =
-        let f = grown-fits l (w .count) (rows-of w) (rows-of w) (r .fits) c refl in
+        let f = grown-fits l (w .count) (rows-of w) (rows-of w) (r .rows-fit) c refl in
         let room : w .count + 3 ≤ lent-halfedges (rows-of w) = omega (arith, f .within-capacity, f .lent) in
         let g : Grows l w more = record {
           count-grows = omega arith;
@@ -165,14 +167,14 @@ module _ (l : Limits) where
           normals-grow = appended-none _ _ _;
           references-grow = appended-none _ _ _;
         } in
-        record { grows = g; ready = grown-ready r g (f .thirds) (f .within-capacity) (r .vertices-within) }
+        record { grows = g; fitting = grown-fitting r g (f .thirds) (f .within-capacity) (r .vertices-fit .within-vertices) }
 
-  joined-grew : (k h : ℕ) (w : Growing) → Ready l w → k + 3 ≤ w .count → h < w .count → Grew l w (join k h w)
+  joined-grew : (k h : ℕ) (w : Growing) → Fitting l w → k + 3 ≤ w .count → h < w .count → Grew l w (join k h w)
   unfolding join
   joined-grew k h w r last b =
       grew-step w _ r (λ t. named-keeps (Grew l w) (pairOf (rows-of w) h) (w .count) _ _ (λ q hq.
       let x = pair-grew (k + 2) q w r (omega arith) hq in
-      grew-trans x (pair-grew (k + 1) h (inside (with-rows (paired (k + 2) q (rows-of w))) w) (x .ready) (omega arith) b))
+      grew-trans x (pair-grew (k + 1) h (inside (with-rows (paired (k + 2) q (rows-of w))) w) (x .fitting) (omega arith) b))
       (halt-grew w r))
 
   -- a face among those that were appended
@@ -182,11 +184,11 @@ module _ (l : Limits) where
       by-test (halted w)
       (λ k. rw k f)
       (λ k. rw k
-      (let room : u < l .halfedges / 3 = omega (arith, f .ready .fits .within-capacity) in
+      (let room : u < l .halfedges / 3 = omega (arith, f .fitting .rows-fit .within-capacity) in
       let p = triple (w .normals) t in
       let q = reference (w .references) t in
-      let n = appended-put (a .count / 3) (w .count / 3) u (p .x) (p .y) (p .z) (a .normals) (w .normals) h b (λ y. omega (arith, room, f .ready .faces .normals-lent y)) (f .grows .normals-grow) in
-      let m = appended-put (a .count / 3) (w .count / 3) u (q .mesh) (q .coplanar) (q .face) (a .references) (w .references) h b (λ y. omega (arith, room, f .ready .faces .references-lent y)) (f .grows .references-grow) in
+      let n = appended-put (a .count / 3) (w .count / 3) u (p .x) (p .y) (p .z) (a .normals) (w .normals) h b (λ y. omega (arith, room, f .fitting .faces-fit .normals-lent y)) (f .grows .normals-grow) in
+      let m = appended-put (a .count / 3) (w .count / 3) u (q .mesh) (q .coplanar) (q .face) (a .references) (w .references) h b (λ y. omega (arith, room, f .fitting .faces-fit .references-lent y)) (f .grows .references-grow) in
       record {
         grows = record {
           count-grows = f .grows .count-grows;
@@ -198,14 +200,13 @@ module _ (l : Limits) where
           normals-grow = n;
           references-grow = m;
         };
-        ready = record {
-          fits = f .ready .fits;
-          faces = record {
-            normals-lent = λ y. omega (arith, f .ready .faces .normals-lent y, n .lent, f .grows .normals-grow .lent);
-            references-lent = λ y. omega (arith, f .ready .faces .references-lent y, m .lent, f .grows .references-grow .lent);
+        fitting = record {
+          rows-fit = f .fitting .rows-fit;
+          faces-fit = record {
+            normals-lent = λ y. omega (arith, f .fitting .faces-fit .normals-lent y, n .lent, f .grows .normals-grow .lent);
+            references-lent = λ y. omega (arith, f .fitting .faces-fit .references-lent y, m .lent, f .grows .references-grow .lent);
           };
-          vertices-within = f .ready .vertices-within;
-          vertices-lent = f .ready .vertices-lent;
+          vertices-fit = f .fitting .vertices-fit;
         };
       }))
 
@@ -225,16 +226,16 @@ module _ (l : Limits) where
   abbrev pub OneMore : Growing → Growing → Type 0
   OneMore w x = Grew l w x × (halted x ≡ false → (halted w ≡ false) × (w .count + 3 ≤ x .count))
 
-  add-grew : (a b h e : ℕ) (w : Growing) → Ready l w → OneMore w (add l a b h e w)
+  add-grew : (a b h e : ℕ) (w : Growing) → Fitting l w → OneMore w (add l a b h e w)
   unfolding add
   add-grew a b h e w r =
       by-test (halted w)
       (λ t. rw t (grew-same w r, λ k. absurd (true≢false (sym t ∙ k))))
       (λ t. rw t (by-test (leb (l .halfedges) (w .count))
-      (λ u. rw u (inside-grew (ended NoRoom) w r (frame-ended (w .middle) NoRoom) (r .vertices-within), λ k. absurd (true≢false k)))
+      (λ u. rw u (inside-grew (ended NoRoom) w r (frame-ended (w .middle) NoRoom) (r .vertices-fit .within-vertices), λ k. absurd (true≢false k)))
       (λ u. rw u (added-grew a b h e w r (leb-false (l .halfedges) (w .count) u), λ k. (refl, le-refl _)))))
 
-  pub beside-grew : (a b h e : ℕ) (w : Growing) → Ready l w → h < w .count → OneMore w (beside l a b h e w)
+  pub beside-grew : (a b h e : ℕ) (w : Growing) → Fitting l w → h < w .count → OneMore w (beside l a b h e w)
   unfolding beside
   beside-grew a b h e w r hb = go (add l a b h e w) (add-grew a b h e w r)
     where
@@ -244,6 +245,6 @@ module _ (l : Limits) where
           (λ t. rw (join-halted (w .count) h x t, face-halted (h / 3) (w .count / 3) x t) g)
           (λ t.
           let c = g .1 t .1 in
-          let j = joined-grew (w .count) h x (g .0 .ready) c (omega arith) in
+          let j = joined-grew (w .count) h x (g .0 .fitting) c (omega arith) in
           let d : w .count + 3 ≤ join (w .count) h x .count = omega (arith, c, j .grows .count-grows) in
           (faced-grew (h / 3) (w .count / 3) w (join (w .count) h x) (grew-trans (g .0) j) (le-refl _) (omega arith), λ k. (g .1 t .0, rw (face-count (h / 3) (w .count / 3) (join (w .count) h x)) d)))
