@@ -98,9 +98,12 @@ pub record Ordered (l : Limits) (least : ℕ) (w : Growing) : Type 0 where
 abbrev pub Left : Limits → ℕ → Growing → Type 0
 Left l least w = (w .middle .run .how ≡ NoRoom) ⊎ Ordered l least w
 
+pub ordered : {l : Limits} {e v least : ℕ} {w : Growing} → Went l e v least w → Ordered l least w
+ordered g = record { rows = g .rows; positions = g .positions; N = g .N; H = g .H; normals = g .normals; references = g .references; is = g .is; fits = g .fits; vertices-fit = g .vertices-fit; faces-fit = g .faces-fit; in-order = g .in-order; above = g .above }
+
 forget : {l : Limits} {e v least : ℕ} {w : Growing} → Out l e v least w → Left l least w
 forget (inl z) = inl z
-forget (inr g) = inr (record { rows = g .rows; positions = g .positions; N = g .N; H = g .H; normals = g .normals; references = g .references; is = g .is; fits = g .fits; vertices-fit = g .vertices-fit; faces-fit = g .faces-fit; in-order = g .in-order; above = g .above })
+forget (inr g) = inr (ordered g)
 
 module _ (l : Limits) where
   one-goes : (least d : ℕ) (w : Growing) → d < least → Left l least w → Left l least (fix l d w)
