@@ -1,0 +1,4 @@
+pub mod Turns
+pub mod Entries
+pub mod Scans
+pub mod Found
