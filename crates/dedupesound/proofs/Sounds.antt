@@ -13,13 +13,12 @@ use Rattle.net.specs.declared.Counts.{Counts}
 use Rattle.net.specs.Net.{Net, net}
 use Rattle.net.specs.Counts.{triangle-capacity-over, vertex-capacity-over}
 use Rattle.net.specs.Sound.{end-vertex, Live, Sound}
-use Rattle.net.proofs.Shape.{capacities}
 use Rattle.net.proofs.Sound.{live-row}
 use Rattle.steps.specs.Steps.{NoRoom, Going}
 use Rattle.growth.specs.declared.Limits.{Limits}
-use Rattle.growth.specs.Growth.{Growing, rows-of, VerticesFit}
+use Rattle.growth.specs.Growth.{Growing, rows-of}
 use Rattle.settling.specs.Settling.{limits-of, begun}
-use Rattle.settling.proofs.Entry.{begun-ready}
+use Rattle.settling.proofs.Entry.{begun-fits}
 use Rattle.dedupe.specs.Dedupe.{dedupe-at}
 use Rattle.rounds.specs.Rounds.{rounds}
 use Rattle.dedupesound.specs.Grown.{with-growth}
@@ -47,12 +46,9 @@ module _ (c : Counts) (n : Net) (sound : Sound c n) where
   abbrev pub at-entry : Growing
   at-entry = begun (c .halfedges) (c .vertices) (n .halfedges) (n .positions) (n .normals) (n .references)
 
-  vertices-fit : VerticesFit l (c .vertices) (n .positions)
-  vertices-fit = let k = capacities c n in record { within-vertices = sound .shaped .vertices-fit; vertices-lent = k .vertices-lent; few-vertices = k .vertices-most }
-
   begun-ordered : Ordered l (c .halfedges) at-entry
   begun-ordered =
-      let r = begun-ready c n (sound .shaped) in
+      let r = begun-fits c n (sound .shaped) in
       record {
         rows = n .halfedges;
         positions = n .positions;
@@ -61,9 +57,9 @@ module _ (c : Counts) (n : Net) (sound : Sound c n) where
         normals = n .normals;
         references = n .references;
         is = refl;
-        fits = r .fits;
-        vertices-fit = vertices-fit;
-        faces-fit = r .faces;
+        fits = r .rows-fit;
+        vertices-fit = r .vertices-fit;
+        faces-fit = r .faces-fit;
         in-order = sound .in-order;
         above = le-refl _;
       }
