@@ -1,0 +1,4 @@
+pub mod Law
+pub mod Tests
+pub mod Entries
+pub mod Told
