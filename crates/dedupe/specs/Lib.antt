@@ -1,1 +1,2 @@
 pub mod Dedupe
+pub mod DedupeEdge
