@@ -13,7 +13,6 @@ use Rattle.net.specs.Counts.{is-shaped, spare-holds}
 use Rattle.soundness.specs.Check.{sound-or}
 use Rattle.soundness.specs.Order.{least-out}
 use Rattle.steps.specs.Entries.{past}
-use Rattle.growth.specs.declared.Grown.{Grown}
 use Rattle.growth.specs.declared.Limits.{Limits}
 use Rattle.growth.specs.Growth.{Growing, rows-of, settled}
 use Rattle.settling.specs.Settling.{limits-of, begun, grown-said}
@@ -30,10 +29,6 @@ dedupeSaid D.Number = bad-number
 dedupeSaid D.Dead = dead
 dedupeSaid D.NoRoom = no-room
 dedupeSaid D.Stopped = stopped
-
--- what is said of how the steps ended
-abbrev pub grownSaid : Grown → Said
-grownSaid g = grown-said (g .halfedges) (g .run .vertices) (g .run .how)
 
 -- what is said, and the half-edge rows, positions, normals, references and spares afterwards
 pub record Left : Type 0 where

@@ -1,6 +1,7 @@
 // The entry dedupe_edge: the checks, then the step, which a spare lets put everything back.
 ghost use mathlib.Core.Path.{_≡_};
-ghost use Rattle.dedupe.specs.DedupeEdge.{dedupeSaid, grownSaid};
+ghost use Rattle.settling.specs.Settling.{grownSaid};
+ghost use Rattle.dedupe.specs.DedupeEdge.{dedupeSaid};
 use growth::Grown;
 use numbers::Halfedge;
 use steps::How;

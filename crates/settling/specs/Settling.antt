@@ -44,6 +44,9 @@ grown-said halfedges vertices W.Going = done (whole (pos halfedges) ∷ whole (p
 grown-said halfedges vertices W.NoRoom = no-room
 grown-said halfedges vertices W.Stopped = stopped
 
+abbrev pub grownSaid : Grown → Said
+grownSaid g = grown-said (g .halfedges) (g .run .vertices) (g .run .how)
+
 -- the end from the spare, which holds the H half-edge rows and N positions that were in use
 abbrev pub settled-by : Limits → ℕ → ℕ → List ℤ → List ℕ → Growing → Growing
 settled-by l H N saved held w =

@@ -1,0 +1,74 @@
+-- The entry dedupe_edges: answers 1, 2, 3, then 6 or 7, whichever the rounds meet first; 0 with the half-edges and vertices in use.
+use mathlib.Core.Bool.{Bool, cond, _&&_}
+use mathlib.Core.List.{List, [], _∷_}
+use Prim.Native.Nat.{ℕ}
+use lib.IntN.{ℤ, pos}
+use lib.ListN.{length}
+use Rattle.answers.specs.Answers.{Said, whole, done, shape, short-buffer, unsound, no-room, stopped}
+use Rattle.laws.specs.Stretches.{cleared}
+use Rattle.numbers.specs.Numbers.{halfedgeNumber}
+use Rattle.rows.specs.Halfedges.{over-rows}
+use Rattle.rows.specs.Triples.{over-triples}
+use Rattle.net.specs.declared.Counts.{Counts}
+use Rattle.net.specs.Net.{Net}
+use Rattle.net.specs.Counts.{is-shaped, is-long, spare-holds}
+use Rattle.soundness.specs.Check.{sound-or}
+use Rattle.soundness.specs.Order.{least-out}
+use Rattle.steps.specs.Entries.{past}
+use Rattle.growth.specs.declared.Limits.{Limits}
+use Rattle.growth.specs.Growth.{Growing, rows-of, settled}
+use Rattle.settling.specs.Settling.{limits-of, begun, grown-said}
+use Rattle.rounds.specs.declared.entry.DedupeEdges.{DedupeEdges}
+use Rattle.rounds.specs.declared.entry.DedupeEdges.the-variants as D
+use Rattle.rounds.specs.Rounds.{rounds}
+
+abbrev pub edgesSaid : DedupeEdges → Said
+edgesSaid (D.Done halfedges vertices) = done (whole (pos halfedges) ∷ whole (pos vertices) ∷ [])
+edgesSaid D.Shape = shape
+edgesSaid D.ShortBuffer = short-buffer
+edgesSaid (D.Unsound h) = unsound (halfedgeNumber h)
+edgesSaid D.NoRoom = no-room
+edgesSaid D.Stopped = stopped
+
+-- what is said, and the half-edge rows, positions, normals, references, spares, work buffer and list afterwards
+pub record Left : Type 0 where
+  pub said : Said
+  pub halfedges : List ℤ
+  pub positions : List ℕ
+  pub normals : List ℕ
+  pub references : List ℤ
+  pub saved : List ℤ
+  pub held : List ℕ
+  pub work : List ℕ
+  pub list : List ℕ
+
+abbrev pub left : Said → List ℤ → List ℕ → List ℕ → List ℤ → List ℤ → List ℕ → List ℕ → List ℕ → Left
+left s h p n r sh sp w l = record { said = s; halfedges = h; positions = p; normals = n; references = r; saved = sh; held = sp; work = w; list = l }
+
+abbrev pub left-by : List ℤ → List ℕ → List ℕ → List ℕ → Growing → Left
+left-by saved held work list w =
+    left (grown-said (w .count) (w .middle .run .vertices) (w .middle .run .how)) (rows-of w) (w .middle .positions) (w .normals) (w .references) saved held work list
+
+-- everything as at entry
+abbrev pub as-lent : Said → Net → List ℤ → List ℕ → List ℕ → List ℕ → Left
+as-lent s n saved held work list = left s (n .halfedges) (n .positions) (n .normals) (n .references) saved held work list
+
+-- past the checks: at most as many rounds as half-edges; the spare holds the rows in use as at entry, work buffer and list read zero over
+-- the half-edge capacity
+unfoldable pub roundsAt : Limits → ℕ → ℕ → List ℤ → List ℕ → List ℕ → List ℤ → List ℤ → List ℕ → List ℕ → List ℕ → Left
+roundsAt l H N rows positions normals references saved held work list =
+    left-by (over-rows H rows saved) (over-triples N positions held) (cleared (l .halfedges) work) (cleared (l .halfedges) list)
+    (settled l H N rows positions normals references (rounds l H (begun H N rows positions normals references) .growing))
+
+-- the spare holds the rows in use; the work buffer has an entry for each of `long`, the list one for each half-edge that there can be
+abbrev pub lent-enough : Counts → Limits → ℕ → List ℤ → List ℕ → List ℕ → List ℕ → Bool
+lent-enough c l long saved held work list = spare-holds c saved held && is-long (length work) long && is-long (length list) (l .halfedges)
+
+unfoldable pub dedupeEdges : Counts → Net → List ℤ → List ℕ → List ℕ → List ℕ → Left
+dedupeEdges c n saved held work list =
+    cond (is-shaped c n)
+    (cond (lent-enough c (limits-of c n) (limits-of c n .halfedges) saved held work list)
+    (past (sound-or (least-out (c .halfedges) (c .vertices) (n .halfedges))) (λ s. as-lent s n saved held work list)
+    (roundsAt (limits-of c n) (c .halfedges) (c .vertices) (n .halfedges) (n .positions) (n .normals) (n .references) saved held work list))
+    (as-lent short-buffer n saved held work list))
+    (as-lent shape n saved held work list)
