@@ -4,7 +4,9 @@
    here allocates, prints, keeps state between calls or fails to return.
 
    THE NET. Five arrays that the caller lends, and the counts of what is in use of each. An array is passed as a pointer and
-   the number of its ELEMENTS (not rows); rows behind those in use are free.
+   the number of its ELEMENTS (not rows). The rows behind those in use, up to the capacity, are free: an operation that appends writes there. A
+   capacity is the rows lent or the bound (below, with the counts), whichever is less; the triangle capacity is the least over
+   half-edges (by thirds) and over those of normals and references that are in use.
 
      halfedges    int32_t, 4 a row: start_vert, end_vert, paired_halfedge, prop_vert. Rows 3t, 3t+1 and 3t+2 are triangle t.
      positions    uint64_t, 3 a row: the bit patterns of x, y, z (an array of doubles will do, by a cast of the pointer).
@@ -166,7 +168,8 @@ spoonferret_row_answer spoonferret_remove_if_folded(spoonferret_used used, int32
    remove_if_folded.
    spare_halfedges needs 4 * used.halfedges elements, spare_positions 3 * used.vertices.
    0: done; vertices is used.vertices + 2, and over so many the net is sound. 1: shape. 2: a spare is too short. 3: not sound; row. 4: first or second is not in
-   0..used.halfedges. 5: one of them is dead. 6: positions has no two free rows. 7: a walk does not come to its end.
+   0..used.halfedges. 5: one of them is dead. 6: fewer than two vertex rows are free. 7: there is room, and the walk from
+   first's partner to second's, or from second to first, does not come to its end.
    After 6 and 7 the free rows that had been filled read zero, the others are as they were. After 0, 6 and 7 the spares hold the rows in use as
    they were at the call, over the needed lengths, and are unchanged beyond; after 1 to 5 the spares are as they were. */
 spoonferret_loop_answer spoonferret_form_loop(spoonferret_used used, int32_t *halfedges, size_t halfedges_length,

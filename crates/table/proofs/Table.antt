@@ -1,5 +1,5 @@
--- The cases of "Both sides of each edge" that document 01 marks with *: one table, and one statement, proved by computing.
--- A row has what the definition that a contract cites gives, and what document 01 says.
+-- The cases of "Both sides of each edge" that document 01 marks with *, but for the one of collapse_edge, which comes with it: one table,
+-- and one statement, proved by computing. A row has what the definition that a contract cites gives, and what document 01 says.
 use mathlib.Core.Path.{_≡_, refl}
 use mathlib.Core.List.{List, [], _∷_, _++_, map}
 use Prim.Native.Nat.{ℕ}
