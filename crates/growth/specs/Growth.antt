@@ -31,6 +31,10 @@ growing m k n r = record { middle = m; count = k; normals = n; references = r }
 abbrev pub grown-to : ℕ → Run → Grown
 grown-to k r = record { halfedges = k; run = r }
 
+-- the net as the code holds it
+abbrev pub so-far : List ℤ → List ℕ → List ℕ → List ℤ → Grown → Growing
+so-far rows positions normals references g = growing (middle rows positions (g .run)) (g .halfedges) normals references
+
 abbrev pub rows-of : Growing → List ℤ
 rows-of w = w .middle .halfedges
 
@@ -62,6 +66,12 @@ pub record VerticesFit (l : Limits) (vertices : ℕ) (positions : List ℕ) : Ty
   pub within-vertices : vertices ≤ l .vertices
   pub vertices-lent : l .vertices ≤ lent-triples positions
   pub few-vertices : l .vertices ≤ most-vertices
+
+-- what a step counts on, and leaves to the next
+pub record Fitting (l : Limits) (w : Growing) : Type 0 where
+  pub rows-fit : Fits l (w .count) (rows-of w)
+  pub vertices-fit : VerticesFit l (w .middle .run .vertices) (w .middle .positions)
+  pub faces-fit : FacesFit l (w .normals) (w .references)
 
 -- a step gives up no half-edge and no vertex that is in use
 pub record More (a b : Grown) : Type 0 where

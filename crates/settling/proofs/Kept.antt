@@ -25,6 +25,7 @@ use Rattle.walks.proofs.Kept.{length-moved, moved-below, frame-update}
 use Rattle.loops.specs.Loops.{append}
 use Rattle.growth.specs.declared.Limits.{Limits}
 use Rattle.growth.specs.Growth.{Growing, growing, rows-of, halted, inside, halt, Fits, FacesFit, VerticesFit, add, join, face, beside, relabel, copy-of, copy-round}
+pub use Rattle.growth.specs.Growth.{Fitting}
 use Rattle.growth.proofs.Fit.{grown-fits}
 use Rattle.growth.proofs.Triangle.{length-triangle, triangle-behind}
 use Rattle.settling.proofs.Appended.{Appended, appended-none, appended-put}
@@ -79,11 +80,6 @@ copy-frame {H} capacity v m within lent =
         (record { rows-free = refl; rows-lent = refl; grows = omega arith; positions-free = triples-behind (m .run .vertices) (triple (m .positions) v) (m .positions) room; positions-lent = length-put (m .run .vertices) (triple (m .positions) v) (m .positions) room }, omega arith)
 
 -- ---- a net that grows: within what there can be, and that is lent
-pub record Fitting (l : Limits) (w : Growing) : Type 0 where
-  pub rows-fit : Fits l (w .count) (rows-of w)
-  pub vertices-fit : VerticesFit l (w .middle .run .vertices) (w .middle .positions)
-  pub faces-fit : FacesFit l (w .normals) (w .references)
-
 pub record Grew (l : Limits) (a b : Growing) : Type 0 where
   pub grows : Grows l a b
   pub fitting : Fitting l b
