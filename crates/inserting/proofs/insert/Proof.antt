@@ -1,13 +1,13 @@
--- `dedupe::insert` meets its contract: the copy, then the triangles.
+-- `inserting::insert` meets its contract: the copy, then the triangles.
 use mathlib.Core.Path.{ap}
 use native.Mathlib.Omega.{arith}
 use Rattle.steps.specs.Steps.{Middle}
 use Rattle.growth.specs.Growth.{growing}
 use Rattle.growth.proofs.Fit.{same-faces}
-use Rattle.dedupe.specs.Dedupe.{insert-from, insert}
+use Rattle.inserting.specs.Inserting.{insert-from, insert}
 use borrow.Author.Needs.{needs}
-use Rattle.dedupe.proofs.insert.Statement.{statement}
-use Rattle.dedupe.proofs.insert.Tie as tie
+use Rattle.inserting.proofs.insert.Statement.{statement}
+use Rattle.inserting.proofs.insert.Tie as tie
 
 vertex-appended-requires : tie.Need-vertex-appended-requires
 vertex-appended-requires c κs = search needs

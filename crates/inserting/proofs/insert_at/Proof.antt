@@ -1,12 +1,12 @@
--- `dedupe::insert_at` meets its contract: one step after the other.
+-- `inserting::insert_at` meets its contract: one step after the other.
 use mathlib.Core.Path.{_∙_}
 use native.Mathlib.Omega.{arith}
 use Rattle.numbers.proofs.NextLaws.{next-in}
 use Rattle.growth.proofs.Fit.{same-fits, same-faces}
-use Rattle.dedupe.specs.Dedupe.{insert-at}
+use Rattle.inserting.specs.Inserting.{insert-at}
 use borrow.Author.Needs.{needs}
-use Rattle.dedupe.proofs.insert_at.Statement.{statement}
-use Rattle.dedupe.proofs.insert_at.Tie as tie
+use Rattle.inserting.proofs.insert_at.Statement.{statement}
+use Rattle.inserting.proofs.insert_at.Tie as tie
 
 next-requires : tie.Need-next-requires
 next-requires c κs = search needs

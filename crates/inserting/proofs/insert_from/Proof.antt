@@ -1,10 +1,10 @@
--- `dedupe::insert_from` meets its contract: each return is by the tests met so far.
+-- `inserting::insert_from` meets its contract: each return is by the tests met so far.
 use mathlib.Core.Path.{refl, sym}
 use native.Mathlib.Nat.{le-refl}
 use Rattle.walks.proofs.Turns.{onward-below}
 use borrow.Author.Needs.{needs}
-use Rattle.dedupe.proofs.insert_from.Statement.{statement}
-use Rattle.dedupe.proofs.insert_from.Tie as tie
+use Rattle.inserting.proofs.insert_from.Statement.{statement}
+use Rattle.inserting.proofs.insert_from.Tie as tie
 
 refused-requires : tie.Need-refused-requires
 refused-requires c κs = search needs

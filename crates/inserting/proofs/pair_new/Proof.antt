@@ -1,10 +1,10 @@
--- `dedupe::pair_new` meets its contract.
+-- `inserting::pair_new` meets its contract.
 use mathlib.Core.Path.{sym, _∙_}
 use native.Mathlib.Omega.{arith}
-use Rattle.dedupe.specs.Dedupe.{pair-new}
+use Rattle.inserting.specs.Inserting.{pair-new}
 use borrow.Author.Needs.{needs}
-use Rattle.dedupe.proofs.pair_new.Statement.{statement}
-use Rattle.dedupe.proofs.pair_new.Tie as tie
+use Rattle.inserting.proofs.pair_new.Statement.{statement}
+use Rattle.inserting.proofs.pair_new.Tie as tie
 
 refused-requires : tie.Need-refused-requires
 refused-requires c κs = search needs
