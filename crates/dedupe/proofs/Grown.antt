@@ -79,3 +79,7 @@ module _ (l : Limits) where
       let g = end-grew v e (at-first l v e w p) (f .fitting) in
       grew-trans l f (grew-trans l g (second-grew v e (copy-end l v e (at-first l v e w p)) (g .fitting))))
       (halt-grew l w r)) (halt-grew l w r)) (halt-grew l w r))
+
+  -- what the step leaves, known by an equation
+  pub dedupe-keeps : (e : ℕ) (w : Growing) {x : Growing} → x ≡ dedupe-at l e w → Fitting l w → Grew l w x
+  dedupe-keeps e w q r = rw q (dedupe-grew e w r)

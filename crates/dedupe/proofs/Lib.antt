@@ -1,3 +1,4 @@
 pub mod Places
 pub mod Grown
 pub mod Told
+pub mod Settled

@@ -1,13 +1,13 @@
 -- A net with nothing that calls for answer 1 is within what there can be; and what has grown from it can be settled.
-use mathlib.Core.Path.{_≡_}
+use mathlib.Core.Path.{_≡_, _∙_}
 use mathlib.Core.Bool.{true}
 use mathlib.Core.List.{List}
 use Prim.Native.Nat.{ℕ, _/_, _%_, _<_, _≤_}
 use native.Mathlib.Omega.{arith}
 use borrow.Author.Tests.{ltb-true}
 use lib.IntN.{ℤ}
-use Rattle.rows.specs.Halfedges.{lent-halfedges}
-use Rattle.rows.specs.Triples.{lent-triples}
+use Rattle.rows.specs.Halfedges.{lent-halfedges, over-rows}
+use Rattle.rows.specs.Triples.{lent-triples, over-triples}
 use Rattle.net.specs.declared.Counts.{Counts}
 use Rattle.net.specs.Net.{Net}
 use Rattle.net.specs.Counts.{Shaped}
@@ -15,8 +15,9 @@ use Rattle.net.proofs.Shape.{capacities}
 use Rattle.steps.specs.Steps.{middle}
 use Rattle.growth.specs.declared.Grown.{Grown}
 use Rattle.growth.specs.declared.Limits.{Limits}
-use Rattle.growth.specs.Growth.{growing}
-use Rattle.settling.specs.Settling.{limits-of, begun, Settles}
+use Rattle.growth.specs.Growth.{Growing, growing, settled}
+use Rattle.settling.specs.Settling.{limits-of, begun, settled-by, Settles}
+use Rattle.settling.proofs.Grows.{settle-grown-same}
 use Rattle.settling.proofs.Kept.{Fitting, Grew}
 
 pub begun-fits : (c : Counts) (n : Net) → Shaped c n → Fitting (limits-of c n) (begun (c .halfedges) (c .vertices) (n .halfedges) (n .positions) (n .normals) (n .references))
@@ -51,3 +52,11 @@ grew-settles saved held g hs hp k = record {
   normals-lent = λ t. omega (arith, k .fitting .rows-fit .within-capacity, k .fitting .faces-fit .normals-lent t);
   references-lent = λ t. omega (arith, k .fitting .rows-fit .within-capacity, k .fitting .faces-fit .references-lent t);
 }
+
+-- settled from a spare that holds the rows in use as at entry, what has grown ends as it should
+pub ends-settled : (l : Limits) (H N : ℕ) (rows saved : List ℤ) (positions held normals : List ℕ) (references : List ℤ) (w x : Growing) {back : List ℤ} {put : List ℕ} →
+    Fitting l (begun H N rows positions normals references) → Grew l (begun H N rows positions normals references) w →
+    back ≡ over-rows H rows saved → put ≡ over-triples N positions held → x ≡ settled-by l H N back put w → x ≡ settled l H N rows positions normals references w
+ends-settled l H N rows saved positions held normals references w x f g b p e =
+    e ∙ (λ i. settled-by l H N (b i) (p i) w)
+    ∙ settle-grown-same l H N rows saved positions held normals references w (omega (arith, f .rows-fit .within-capacity, f .rows-fit .lent)) (omega (arith, f .vertices-fit .within-vertices, f .vertices-fit .vertices-lent)) (g .grows)
