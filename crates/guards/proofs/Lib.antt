@@ -1,3 +1,4 @@
 pub mod Bounds
 pub mod InUse
 pub mod Readings
+pub mod Exports
