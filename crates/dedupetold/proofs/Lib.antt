@@ -1,3 +1,4 @@
 pub mod Ends
 pub mod Edge
 pub mod Edges
+pub mod Cleaned
