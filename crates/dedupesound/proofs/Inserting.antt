@@ -6,7 +6,7 @@ use mathlib.Core.List.{List}
 use mathlib.Core.Logic.{_⊎_, inl, inr, ⊎-elim}
 use Prim.Native.Nat.{ℕ, _+_, _%_, _/_, _<_, _≤_}
 use native.Mathlib.Omega.{arith}
-use borrow.Author.Tests.{leb-false, ne-eqb}
+use borrow.Author.Tests.{leb-true, leb-false, ne-eqb}
 use lib.Dec.{leb}
 use lib.IntN.{ℤ, pos}
 use lib.ListN.{length}
@@ -446,10 +446,14 @@ module _ (l : Limits) (e v least : ℕ) (w : Growing) (g : Went l e v least w) (
   full-end : (s : Stood) → s .growing .middle .run .how ≡ NoRoom → copy-end l v e s .middle .run .how ≡ NoRoom
   full-end s z = ap (λ (x : Growing). x .middle .run .how) (end-halted l e v least (s .growing) (s .place) (no-room-halts (s .growing) z)) ∙ z
 
-  pub insert-left : OutWith l e v least (First l e v w) (copy-end l v e (insert l v c e w))
+  -- no room for a vertex, or for two triangles
+  abbrev pub Lacks : Type 0
+  Lacks = (l .vertices ≤ N) ⊎ (l .halfedges < H + 6)
+
+  pub insert-left : OutWith l e v least Lacks (First l e v w) (copy-end l v e (insert l v c e w))
   insert-left =
-      subst (λ (x : Growing). OutWith l e v least (First l e v x) (copy-end l v e (insert l v c e x))) (sym (g .is))
-      (by-test (leb (l .vertices) N) (λ t. inl (full-end (insert l v c e now) (vertex-full t))) (λ t.
-      by-test (leb (l .halfedges) H) (λ u. inl (full-end (insert l v c e now) (none-first t u))) (λ u.
-      by-test (leb (l .halfedges) (H + 3)) (λ y. inl (full-end (insert l v c e now) (none-second t u y))) (λ y.
+      subst (λ (x : Growing). OutWith l e v least Lacks (First l e v x) (copy-end l v e (insert l v c e x))) (sym (g .is))
+      (by-test (leb (l .vertices) N) (λ t. inl (full-end (insert l v c e now) (vertex-full t), inl (leb-true (l .vertices) N t))) (λ t.
+      by-test (leb (l .halfedges) H) (λ u. inl (full-end (insert l v c e now) (none-first t u), inr (let b = leb-true (l .halfedges) H u in omega arith))) (λ u.
+      by-test (leb (l .halfedges) (H + 3)) (λ y. inl (full-end (insert l v c e now) (none-second t u y), inr (let b = leb-true (l .halfedges) (H + 3) y in omega arith))) (λ y.
       rw (end-not-copied t u y) (inr (inserted-goes t u y, insert-words t u y))))))

@@ -443,15 +443,15 @@ module _ (l : Limits) (e v least : ℕ) (w w1 : Growing) (g : Went l e v least w
     stands1 : Went l e v least now1
     stands1 = subst (Went l e v least) (n .is) n
 
-    at-stop : (x : Place) → Stops (n .H) (n .N) rows1 thirds1 long1 (n .in-order) v p (move rows1 p) x → OutWith l e v least (Deduped l e now) (at-second l v now1 x)
+    at-stop : (x : Place) → Stops (n .H) (n .N) rows1 thirds1 long1 (n .in-order) v p (move rows1 p) x → OutWith l e v least (l .vertices ≤ n .N) (Deduped l e now) (at-second l v now1 x)
     at-stop x (inl (c, z, m)) = rw z (inr (stands1, kept-left c m))
-    at-stop x (inr (z, m)) = rw z (told (subst (λ (y : Growing). OutWith l e v least (FanCopied v p y) (copy-round l v (next p) y)) (n .is) (copy-left l e v least w1 n p lp1)))
+    at-stop x (inr (z, m)) = rw z (told (subst (λ (y : Growing). OutWith l e v least (l .vertices ≤ n .N) (FanCopied v p y) (copy-round l v (next p) y)) (n .is) (copy-left l e v least w1 n p lp1)))
       where
-        told : OutWith l e v least (FanCopied v p now1) (copy-round l v (next p) now1) → OutWith l e v least (Deduped l e now) (copy-round l v (next p) now1)
+        told : OutWith l e v least (l .vertices ≤ n .N) (FanCopied v p now1) (copy-round l v (next p) now1) → OutWith l e v least (l .vertices ≤ n .N) (Deduped l e now) (copy-round l v (next p) now1)
         told (inl y) = inl y
         told (inr (k, fan)) = inr (k, copied-left m (copy-round l v (next p) now1) k fan)
 
-    second-told : OutWith l e v least (Deduped l e now) (second l v e now1)
+    second-told : OutWith l e v least (l .vertices ≤ n .N) (Deduped l e now) (second l v e now1)
     unfolding second
     second-told =
         let k = row1 (n .e-live) in
@@ -459,8 +459,8 @@ module _ (l : Limits) (e v least : ℕ) (w w1 : Growing) (g : Went l e v least w
         let c = goes-on (n .H) (n .N) rows1 thirds1 long1 (n .in-order) lp1 in
         rw (a, c) (at-stop (seek (n .H) v p rows1 (n .H) (move rows1 p)) (seek-stops (n .H) (n .N) rows1 thirds1 long1 (n .in-order) v p lp1))
 
-  pub second-left : First l e v w w1 → OutWith l e v least (Deduped l e w) (second l v e w1)
+  pub second-left : First l e v w w1 → OutWith l e v least (l .vertices ≤ n .N) (Deduped l e w) (second l v e w1)
   second-left f =
-      subst (λ (x : Growing). OutWith l e v least (Deduped l e x) (second l v e w1)) (sym (g .is))
-      (subst (λ (x : Growing). OutWith l e v least (Deduped l e now) (second l v e x)) (sym (n .is))
+      subst (λ (x : Growing). OutWith l e v least (l .vertices ≤ n .N) (Deduped l e x) (second l v e w1)) (sym (g .is))
+      (subst (λ (x : Growing). OutWith l e v least (l .vertices ≤ n .N) (Deduped l e now) (second l v e x)) (sym (n .is))
       (second-told (subst (λ (x : Growing). First l e v now x) (n .is) (subst (λ (x : Growing). First l e v x w1) (g .is) f))))

@@ -3,7 +3,7 @@
 use mathlib.Core.Path.{_≡_, refl}
 use mathlib.Core.List.{List}
 use mathlib.Core.Logic.{_⊎_, inl, inr}
-use Prim.Native.Nat.{ℕ}
+use Prim.Native.Nat.{ℕ, _+_, _<_}
 use native.Mathlib.Nat.{le-refl}
 use native.Mathlib.Omega.{arith}
 use borrow.Author.Tests.{lt-ltb}
@@ -11,7 +11,7 @@ use lib.IntN.{ℤ}
 use lib.ListN.{length}
 use Rattle.net.specs.declared.Counts.{Counts}
 use Rattle.net.specs.Net.{Net, net}
-use Rattle.net.specs.Counts.{triangle-capacity-over, vertex-capacity-over}
+use Rattle.net.specs.Counts.{triangle-capacity-over, vertex-capacity-over, halfedge-capacity, vertex-capacity}
 use Rattle.net.specs.Sound.{end-vertex, Live, Sound}
 use Rattle.net.proofs.Sound.{live-row}
 use Rattle.steps.specs.Steps.{NoRoom, Going}
@@ -114,10 +114,17 @@ module _ (c : Counts) (n : Net) (sound : Sound c n) where
           above = le-refl _;
         }
 
-    pub dedupe-sound : (dedupe-at l e at-entry .middle .run .how ≡ NoRoom) ⊎ (SoundAfter c (n .properties) (dedupe-at l e at-entry) × Deduped l e at-entry (dedupe-at l e at-entry))
+    -- no room for two vertices, or for two triangles
+    abbrev pub Lacks : Type 0
+    Lacks = (vertex-capacity n < c .vertices + 2) ⊎ (halfedge-capacity c n < c .halfedges + 6)
+
+    abbrev pub steps : Growing
+    steps = dedupe-at l e at-entry
+
+    pub dedupe-sound : ((steps .middle .run .how ≡ NoRoom) × Lacks) ⊎ (SoundAfter c (n .properties) steps × Deduped l e at-entry steps)
     unfolding went
     dedupe-sound = go (dedupe-left l e v (c .halfedges) at-entry went (live-row (c .halfedges) (c .vertices) (n .halfedges) (sound .shaped .thirds) (sound .in-order) le .end-is))
       where
-        go : OutWith l e v (c .halfedges) (Deduped l e at-entry) (dedupe-at l e at-entry) → (dedupe-at l e at-entry .middle .run .how ≡ NoRoom) ⊎ (SoundAfter c (n .properties) (dedupe-at l e at-entry) × Deduped l e at-entry (dedupe-at l e at-entry))
+        go : OutWith l e v (c .halfedges) Lacks (Deduped l e at-entry) steps → ((steps .middle .run .how ≡ NoRoom) × Lacks) ⊎ (SoundAfter c (n .properties) steps × Deduped l e at-entry steps)
         go (inl z) = inl z
-        go (inr (k, d)) = inr (ordered-sound (dedupe-at l e at-entry) (c .halfedges) (ordered k), d)
+        go (inr (k, d)) = inr (ordered-sound steps (c .halfedges) (ordered k), d)

@@ -5,7 +5,7 @@ use mathlib.Core.List.{List}
 use mathlib.Core.Logic.{_⊎_, inl, inr}
 use Prim.Native.Nat.{ℕ, _+_, _%_, _<_, _≤_}
 use native.Mathlib.Omega.{arith}
-use borrow.Author.Tests.{leb-false}
+use borrow.Author.Tests.{leb-true, leb-false}
 use lib.Dec.{leb, eqb}
 use lib.IntN.{ℤ, pos}
 use lib.ListN.{length}
@@ -164,13 +164,17 @@ module _ (l : Limits) (e v least : ℕ) where
   abbrev pub Out : Growing → Type 0
   Out w = (w .middle .run .how ≡ NoRoom) ⊎ Went w
 
-  -- the same, with what is left in words
-  abbrev pub OutWith : (Growing → Type 0) → Growing → Type 0
-  OutWith P w = (w .middle .run .how ≡ NoRoom) ⊎ (Went w × P w)
+  -- the same, with what room is lacking, or what is left in words
+  abbrev pub OutWith : Type 0 → (Growing → Type 0) → Growing → Type 0
+  OutWith lack P w = ((w .middle .run .how ≡ NoRoom) × lack) ⊎ (Went w × P w)
 
-  pub without : (P : Growing → Type 0) {w : Growing} → OutWith P w → Out w
-  without P (inl z) = inl z
-  without P (inr (n, k)) = inr n
+  pub lacking : {lack more : Type 0} (P : Growing → Type 0) {w : Growing} → (lack → more) → OutWith lack P w → OutWith more P w
+  lacking P f (inl (z, k)) = inl (z, f k)
+  lacking P f (inr o) = inr o
+
+  pub without : (lack : Type 0) (P : Growing → Type 0) {w : Growing} → OutWith lack P w → Out w
+  without lack P (inl z) = inl (z .0)
+  without lack P (inr (n, k)) = inr n
 
   -- a copy of v on the fan of a live half-edge
   module _ (w : Growing) (g : Went w) where
@@ -257,10 +261,10 @@ module _ (l : Limits) (e v least : ℕ) where
           references-are = refl;
         })
 
-      pub copy-left : OutWith (FanCopied v a w) (copy-round l v (next a) w)
+      pub copy-left : OutWith (l .vertices ≤ N) (FanCopied v a w) (copy-round l v (next a) w)
       copy-left =
-          subst (λ (x : Growing). OutWith (FanCopied v a x) (copy-round l v (next a) x)) (sym (g .is))
-          (by-test (leb (l .vertices) N) (λ t. inl (copy-full (next a) t)) (λ t. inr (copy-went t, copy-words t)))
+          subst (λ (x : Growing). OutWith (l .vertices ≤ N) (FanCopied v a x) (copy-round l v (next a) x)) (sym (g .is))
+          (by-test (leb (l .vertices) N) (λ t. inl (copy-full (next a) t, leb-true (l .vertices) N t)) (λ t. inr (copy-went t, copy-words t)))
 
   pub second-halted : (w : Growing) → halted w ≡ true → second l v e w ≡ w
   unfolding second

@@ -3,10 +3,9 @@
 use mathlib.Core.Path.{_≡_, subst}
 use mathlib.Core.List.{List}
 use mathlib.Core.Logic.{_⊎_, inl, inr, ⊎-elim}
-use Prim.Native.Nat.{ℕ, _+_, _≤_}
+use Prim.Native.Nat.{ℕ, _+_}
 use native.Mathlib.Nat.{le-refl}
 use native.Mathlib.Omega.{arith}
-use lib.ListN.{length}
 use Rattle.net.specs.declared.Counts.{Counts}
 use Rattle.net.specs.Net.{Net, net}
 use Rattle.net.specs.Counts.{with-vertices}
@@ -19,7 +18,6 @@ use Rattle.growth.specs.declared.Limits.{Limits}
 use Rattle.growth.specs.Growth.{Growing}
 use Rattle.settling.specs.Settling.{limits-of, begun}
 use Rattle.settling.proofs.Appended.{appended-none}
-use Rattle.settling.proofs.Grows.{Grows}
 use Rattle.settling.proofs.Kept.{Fitting, Grew, grew-trans}
 use Rattle.settling.proofs.Entry.{begun-fits}
 use Rattle.rounds.specs.Rounds.{rounds}

@@ -4,8 +4,8 @@
 use mathlib.Core.Path.{_≡_, refl}
 use mathlib.Core.Bool.{true}
 use mathlib.Core.List.{List}
-use mathlib.Core.Logic.{_⊎_, inl, inr}
-use Prim.Native.Nat.{ℕ, _≤_}
+use mathlib.Core.Logic.{_⊎_, inl, inr, ⊎-elim}
+use Prim.Native.Nat.{ℕ, _+_, _≤_}
 use native.Mathlib.Omega.{arith}
 use lib.IntN.{ℤ, pos}
 use Rattle.answers.specs.Answers.{Said, bad-number, dead}
@@ -16,7 +16,7 @@ use Rattle.rows.specs.Halfedges.{is-paired, lent-halfedges}
 use Rattle.rows.specs.Triples.{lent-triples}
 use Rattle.net.specs.declared.Counts.{Counts}
 use Rattle.net.specs.Net.{Net, net}
-use Rattle.net.specs.Counts.{spare-holds}
+use Rattle.net.specs.Counts.{halfedge-capacity, vertex-capacity, spare-holds}
 use Rattle.net.specs.Sound.{Live, Sound}
 use Rattle.net.proofs.Shape.{shaped-true}
 use Rattle.net.proofs.Sound.{live-paired}
@@ -36,8 +36,8 @@ use Rattle.refusals.proofs.Law.{checked, Begins, stops, goes}
 use Rattle.refusals.proofs.Entries.{long-refusals}
 use Rattle.refusals.proofs.Tests.{told-both, told-least, told-names, is-live, told-live}
 use Rattle.dedupesound.specs.Deduped.{Deduped}
-use Rattle.dedupesound.proofs.Sounds.{SoundAfter, at-entry, dedupe-sound}
-use Rattle.dedupetold.specs.Told.{EdgeEnded, edge-done, edge-full, Spared}
+use Rattle.dedupesound.proofs.Sounds.{SoundAfter, at-entry, Lacks, dedupe-sound}
+use Rattle.dedupetold.specs.Told.{IsDone, in-use, EdgeEnded, edge-done, edge-full, Spared}
 use Rattle.dedupetold.proofs.Ends as E
 
 module _ (c : Counts) (n : Net) (saved : List ℤ) (held : List ℕ) (halfedge : ℤ) where
@@ -109,13 +109,22 @@ module _ (c : Counts) (n : Net) (saved : List ℤ) (held : List ℕ) (halfedge :
     grew : Grew l (at-entry c n sound) steps
     grew = dedupe-grew l e (at-entry c n sound) (begun-fits c n (sound .shaped))
 
-    ended-there : (steps .middle .run .how ≡ NoRoom) ⊎ (SoundAfter c (n .properties) steps × Deduped l e (at-entry c n sound) steps) → EdgeEnded c n e (net-left (at-e e)) (at-e e .said)
+    ended-there : ((steps .middle .run .how ≡ NoRoom) × Lacks c n sound e le) ⊎ (SoundAfter c (n .properties) steps × Deduped l e (at-entry c n sound) steps) → EdgeEnded c n e (net-left (at-e e)) (at-e e .said)
     unfolding dedupeAt
-    ended-there (inl z) = edge-full (steps .count) (steps .middle .run .vertices) (E.full c n sound steps grew z)
+    ended-there (inl (z, k)) = edge-full (steps .count) (steps .middle .run .vertices) (E.full c n sound steps grew z) k
     ended-there (inr (s, d)) = edge-done (steps .count) (steps .middle .run .vertices) (E.done-there c n sound steps grew s) (rw (E.going-is c n sound steps grew s) d)
 
     pub dedupe-told : EdgeEnded c n e (net-left result) (result .said)
     dedupe-told = rw passed (ended-there (dedupe-sound c n sound e le))
+
+    -- with room for two vertices and two triangles it is done
+    pub dedupe-room : N + 2 ≤ vertex-capacity n → H + 6 ≤ halfedge-capacity c n →
+        (k : ℕ) × (m : ℕ) × (IsDone c (net-left result) (result .said) k m × Deduped l e (in-use H N n) (in-use k m (net-left result)))
+    dedupe-room a b = go dedupe-told
+      where
+        go : EdgeEnded c n e (net-left result) (result .said) → (k : ℕ) × (m : ℕ) × (IsDone c (net-left result) (result .said) k m × Deduped l e (in-use H N n) (in-use k m (net-left result)))
+        go (edge-done k m d o) = (k, m, (d, o))
+        go (edge-full k m f r) = ⊎-elim (λ x. absurd (omega arith)) (λ x. absurd (omega arith)) r
 
     pub dedupe-spared : Spared c n saved held (result .saved) (result .held)
     unfolding dedupeAt
@@ -123,7 +132,7 @@ module _ (c : Counts) (n : Net) (saved : List ℤ) (held : List ℕ) (halfedge :
 
   edge-not-stopped : {e : ℕ} {after : Net} {s : Said} → EdgeEnded c n e after s → s .number ≡ 7 → ⊥
   edge-not-stopped (edge-done k m d left) z = E.done-not-stopped d z
-  edge-not-stopped (edge-full k m f) z = E.full-not-stopped f z
+  edge-not-stopped (edge-full k m f r) z = E.full-not-stopped f z
 
   -- whatever is lent, it never stops
   pub dedupe-never-stops : result .said .number ≡ 7 → ⊥

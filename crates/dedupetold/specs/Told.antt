@@ -1,7 +1,8 @@
 -- What an entry that takes duplicate edges apart says and leaves past its checks, in words. `after` is the net as it is left.
 use mathlib.Core.List.{List, [], _∷_}
+use mathlib.Core.Logic.{_⊎_}
 use mathlib.Core.Path.{_≡_}
-use Prim.Native.Nat.{ℕ, _≤_}
+use Prim.Native.Nat.{ℕ, _+_, _<_, _≤_}
 use lib.IntN.{ℤ, pos}
 use Rattle.answers.specs.Answers.{Said, whole, done, no-room}
 use Rattle.rows.specs.Halfedges.{zero-rows, over-rows}
@@ -38,13 +39,14 @@ pub data Ended (c : Counts) (n after : Net) (said : Said) : Type 0 where
   is-done : (H N : ℕ) → IsDone c after said H N → Ended c n after said
   is-full : (H N : ℕ) → IsFull c n after said H N → Ended c n after said
 
--- dedupe_edge at a live half-edge e: on 0 the net is left as `Deduped` has it, row by row
+-- dedupe_edge at a live half-edge e: on 0 the net is left as `Deduped` has it, row by row; on 6 there is no room for two vertices, or
+-- none for two triangles
 abbrev pub in-use : ℕ → ℕ → Net → Growing
 in-use H N n = begun H N (n .halfedges) (n .positions) (n .normals) (n .references)
 
 pub data EdgeEnded (c : Counts) (n : Net) (e : ℕ) (after : Net) (said : Said) : Type 0 where
   edge-done : (H N : ℕ) → IsDone c after said H N → Deduped (limits-of c n) e (in-use (c .halfedges) (c .vertices) n) (in-use H N after) → EdgeEnded c n e after said
-  edge-full : (H N : ℕ) → IsFull c n after said H N → EdgeEnded c n e after said
+  edge-full : (H N : ℕ) → IsFull c n after said H N → (vertex-capacity n < c .vertices + 2) ⊎ (halfedge-capacity c n < c .halfedges + 6) → EdgeEnded c n e after said
 
 -- the spares hold the rows in use as at entry
 pub record Spared (c : Counts) (n : Net) (saved : List ℤ) (held : List ℕ) (saved-then : List ℤ) (held-then : List ℕ) : Type 0 where
