@@ -7,15 +7,11 @@ fn replay(name: &[u8]) {
         os::fail(name);
         return;
     }
-    let mut text = io::large_buffer();
-    let n = io::read_full(file, &mut text);
-    libc::close(file);
-    let mut out = [0u8; 20000];
-    let length = splitfile::split_file(&text[..n], &mut out);
     io::write_all(STDOUT_FILENO, b"-- ");
     io::write_all(STDOUT_FILENO, name);
     io::write_all(STDOUT_FILENO, b"\n");
-    io::write_all(STDOUT_FILENO, &out[..length]);
+    filereport::print_report(file);
+    libc::close(file);
 }
 
 fn named(i: usize) {

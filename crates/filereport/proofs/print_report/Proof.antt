@@ -1,10 +1,10 @@
--- `splitreport::main` is safe and ends: the text that was put is within the buffer.
+-- `filereport::print_report` is safe and ends: the text that was put is within the buffer.
 use mathlib.Core.Path.{sym}
 use lib.Seq.{length-take-le}
 use borrow.Author.Needs.{needs}
 use Rattle.splitfile.proofs.Told.{printed-within}
-use Rattle.splitreport.proofs.main.Statement.{statement}
-use Rattle.splitreport.proofs.main.Tie as tie
+use Rattle.filereport.proofs.print_report.Statement.{statement}
+use Rattle.filereport.proofs.print_report.Tie as tie
 
 large-buffer-requires : tie.Need-large-buffer-requires
 large-buffer-requires c κs = search needs
@@ -38,8 +38,8 @@ write-all-requires c κs = search needs
 returns : tie.Need-returns
 returns c = search needs
 
-pub main-spec : {M : Type 1} → statement M
-main-spec =
+pub print-report-spec : {M : Type 1} → statement M
+print-report-spec =
     tie.close
     (tie.spec
     large-buffer-requires
