@@ -1,6 +1,6 @@
 -- The scan finds the duplicates: what holds before each half-edge, where it begins, what a half-edge does to it, and what is found at
 -- the end. A half-edge is marked exactly where a walk has met it.
-use mathlib.Core.Path.{_≡_, refl, sym, ap, _∙_}
+use mathlib.Core.Path.{_≡_, refl, sym, ap, _∙_, subst}
 use mathlib.Core.Bool.{Bool, true, false, cond, _&&_, _||_, not}
 use mathlib.Core.List.{List, [], _∷_, _++_}
 use Prim.Native.Nat.{ℕ, zero, suc, _+_, _%_, _≤_, _<_}
@@ -19,7 +19,7 @@ use Rattle.numbers.proofs.Names.{names-below}
 use Rattle.numbers.proofs.NextLaws.{next-in}
 use Rattle.rows.specs.Halfedges.{pairOf, is-started, is-ended}
 use Rattle.searches.specs.Duplicates.{turns, fan, is-duplicate, those, is-in, Search, search, search-row, search-rows, duplicates}
-use Rattle.duplicates.specs.Scan.{Entries, entries, push-all, is-marked, is-passed, mark-all, Scan, scan, scan-row, listed, found}
+use Rattle.duplicates.specs.Scan.{Entries, entries, push-all, picked, is-marked, is-passed, mark-all, Scan, scan, scan-row, found}
 use Rattle.duplicates.proofs.Entries.{push-append, pushed}
 
 -- every entry is below H
@@ -27,11 +27,11 @@ abbrev pub Below : ℕ → List ℕ → Type 0
 Below H [] = _≡_ {A = ℕ} 0 0
 Below H (x ∷ xs) = (x < H) × Below H xs
 
-or-assoc : (a b c : Bool) → (a || b) || c ≡ a || (b || c)
+pub or-assoc : (a b c : Bool) → (a || b) || c ≡ a || (b || c)
 or-assoc true b c = refl
 or-assoc false b c = refl
 
-or-comm : (a b : Bool) → a || b ≡ b || a
+pub or-comm : (a b : Bool) → a || b ≡ b || a
 or-comm true true = refl
 or-comm true false = refl
 or-comm false true = refl
@@ -82,57 +82,82 @@ module _ (H : ℕ) (rows : List ℤ) (thirds : H % 3 ≡ 0) where
   pub fan-in : (i : ℕ) → i < H → Below H (fan H rows i)
   fan-in i b = (b, turns-in i H i)
 
--- ---- the scan
-pub record Scanning (H N capacity : ℕ) (rows : List ℤ) (work₀ list₀ : List ℕ) (i : ℕ) (work : List ℕ) (s : Entries) : Type 0 where
+-- ---- the scan: the half-edges below i are done, m tells which a walk has met, and s holds what was found
+pub record Scanning (H N capacity : ℕ) (rows : List ℤ) (list₀ : List ℕ) (i : ℕ) (m : ℕ → Bool) (s : Entries) : Type 0 where
   pub upto : i ≤ H
-  pub kept : length work ≡ length work₀
-  pub beyond : drop H work ≡ drop H work₀
-  pub marks : (k : ℕ) → k < H → is-marked work k ≡ is-in k (search-rows H N rows i .seen)
+  pub marks : (k : ℕ) → k < H → m k ≡ is-in k (search-rows H N rows i .seen)
   pub are : s ≡ push-all capacity (search-rows H N rows i .list) (entries list₀ 0)
 
-module _ (H N capacity : ℕ) (rows : List ℤ) (work₀ list₀ : List ℕ) where
-  pub scanning-begins : (work : List ℕ) → length work ≡ length work₀ → drop H work ≡ drop H work₀ → ((k : ℕ) → k < H → getD work k 0 ≡ 0)
-      → Scanning H N capacity rows work₀ list₀ 0 work (entries list₀ 0)
+those-picked : (N : ℕ) (rows : List ℤ) (w cs : List ℕ) → picked (is-duplicate N rows w) cs ≡ those N rows w cs
+unfolding picked those
+those-picked N rows w [] = refl
+those-picked N rows w (c ∷ cs) = rw (those-picked N rows w cs)
+
+module _ (H N capacity : ℕ) (rows : List ℤ) (list₀ : List ℕ) where
+  pub scanning-begins : (m : ℕ → Bool) → ((k : ℕ) → k < H → m k ≡ false) → Scanning H N capacity rows list₀ 0 m (entries list₀ 0)
   unfolding search-rows is-in push-all
-  scanning-begins work l d z = record { upto = omega arith; kept = l; beyond = d; marks = λ k b. rw (z k b); are = refl }
+  scanning-begins m z = record { upto = omega arith; marks = z; are = refl }
 
-  module _ {i : ℕ} {work : List ℕ} {s : Entries} (S : Scanning H N capacity rows work₀ list₀ i work s) (b : i < H) (thirds : H % 3 ≡ 0) (long : H ≤ length work₀) where
-    pub scanning-on : (work' : List ℕ) (s' : Entries) → scan work' s' ≡ scan-row H N capacity rows i (scan work s)
-        → Scanning H N capacity rows work₀ list₀ (i + 1) work' s'
-    unfolding scan-row search-rows search-row
-    scanning-on work' s' e =
-        by-test (is-passed rows i work) (λ t. passed t (rw t at e)) (λ t. walked t (rw t at e))
+  module _ {i : ℕ} {m : ℕ → Bool} {s : Entries} (S : Scanning H N capacity rows list₀ i m s) (b : i < H) where
+    same : m i || not (is-started rows i && is-ended rows i) ≡ is-in i (search-rows H N rows i .seen) || not (is-started rows i && is-ended rows i)
+    same = ap (λ (t : Bool). t || not (is-started rows i && is-ended rows i)) (S .marks i b)
+
+    pub scanning-passed : m i || not (is-started rows i && is-ended rows i) ≡ true → Scanning H N capacity rows list₀ (i + 1) m s
+    unfolding search-rows search-row
+    scanning-passed t = record {
+      upto = omega arith;
+      marks = λ k l. rw (add-one i) (rw (sym same ∙ t) (S .marks k l));
+      are = rw (add-one i) (rw (sym same ∙ t) (S .are));
+    }
+
+    pub scanning-walked : m i || not (is-started rows i && is-ended rows i) ≡ false → (m' : ℕ → Bool) → ((k : ℕ) → k < H → m' k ≡ m k || is-in k (fan H rows i))
+        → Scanning H N capacity rows list₀ (i + 1) m' (push-all capacity (picked (is-duplicate N rows (fan H rows i)) (fan H rows i)) s)
+    unfolding search-rows search-row
+    scanning-walked t m' f = record {
+      upto = omega arith;
+      marks = λ k l. rw (add-one i) (rw (sym same ∙ t) (
+          f k l ∙ ap (λ (y : Bool). y || is-in k (fan H rows i)) (S .marks k l)
+          ∙ sym (in-append k (search-rows H N rows i .seen) (fan H rows i))));
+      are = rw (add-one i) (rw (sym same ∙ t) (
+          ap (λ (xs : List ℕ). push-all capacity xs s) (those-picked N rows (fan H rows i) (fan H rows i))
+          ∙ ap (push-all capacity (those N rows (fan H rows i) (fan H rows i))) (S .are)
+          ∙ sym (push-append capacity (search-rows H N rows i .list) (those N rows (fan H rows i) (fan H rows i)) (entries list₀ 0))));
+    }
+
+  pub scanning-done : {i : ℕ} {m : ℕ → Bool} {s : Entries} → Scanning H N capacity rows list₀ i m s → H ≤ i → capacity ≤ length list₀
+      → s ≡ found H N capacity rows list₀
+  scanning-done {i} S l long = let e : i ≡ H = omega (arith, S .upto) in (rw e at (S .are)) ∙ pushed capacity list₀ long (duplicates H N rows)
+
+-- ---- the scan with marks
+pub record Marking (H N capacity : ℕ) (rows : List ℤ) (work₀ list₀ : List ℕ) (i : ℕ) (work : List ℕ) (s : Entries) : Type 0 where
+  pub scanning : Scanning H N capacity rows list₀ i (is-marked work) s
+  pub kept : length work ≡ length work₀
+  pub beyond : drop H work ≡ drop H work₀
+
+module _ (H N capacity : ℕ) (rows : List ℤ) (work₀ list₀ : List ℕ) where
+  pub marking-begins : ((k : ℕ) → k < H → getD work₀ k 0 ≡ 0) → Marking H N capacity rows work₀ list₀ 0 work₀ (entries list₀ 0)
+  marking-begins z = record {
+    scanning = scanning-begins H N capacity rows list₀ (is-marked work₀) (λ k b. rw (z k b));
+    kept = refl;
+    beyond = refl;
+  }
+
+  module _ {i : ℕ} {work : List ℕ} {s : Entries} (S : Marking H N capacity rows work₀ list₀ i work s) (b : i < H) (thirds : H % 3 ≡ 0) (long : H ≤ length work₀) where
+    pub marking-on : (work' : List ℕ) (s' : Entries) → scan work' s' ≡ scan-row H N capacity rows i (scan work s)
+        → Marking H N capacity rows work₀ list₀ (i + 1) work' s'
+    unfolding scan-row
+    marking-on work' s' e =
+        by-test (is-passed rows i work)
+        (λ t. subst (λ (z : Scan). Marking H N capacity rows work₀ list₀ (i + 1) (z .work) (z .found)) (sym (rw t at e)) (passed t))
+        (λ t. subst (λ (z : Scan). Marking H N capacity rows work₀ list₀ (i + 1) (z .work) (z .found)) (sym (rw t at e)) (walked t))
       where
-        before : Search
-        before = search-rows H N rows i
-
-        same : is-passed rows i work ≡ is-in i (before .seen) || not (is-started rows i && is-ended rows i)
-        same = ap (λ (t : Bool). t || not (is-started rows i && is-ended rows i)) (S .marks i b)
-
-        passed : is-passed rows i work ≡ true → scan work' s' ≡ scan work s → Scanning H N capacity rows work₀ list₀ (i + 1) work' s'
-        passed t q = record {
-          upto = omega arith;
-          kept = ap (λ (z : Scan). length (z .work)) q ∙ S .kept;
-          beyond = ap (λ (z : Scan). drop H (z .work)) q ∙ S .beyond;
-          marks = λ k m. rw (add-one i) (rw (sym same ∙ t) (ap (λ (z : Scan). is-marked (z .work) k) q ∙ S .marks k m));
-          are = rw (add-one i) (rw (sym same ∙ t) (ap (λ (z : Scan). z .found) q ∙ S .are));
-        }
+        passed : is-passed rows i work ≡ true → Marking H N capacity rows work₀ list₀ (i + 1) work s
+        passed t = record { scanning = scanning-passed H N capacity rows list₀ (S .scanning) b t; kept = S .kept; beyond = S .beyond }
 
         walked : is-passed rows i work ≡ false
-            → scan work' s' ≡ scan (mark-all (fan H rows i) work) (push-all capacity (those N rows (fan H rows i) (fan H rows i)) s)
-            → Scanning H N capacity rows work₀ list₀ (i + 1) work' s'
-        walked t q = record {
-          upto = omega arith;
-          kept = ap (λ (z : Scan). length (z .work)) q ∙ length-mark (fan H rows i) work ∙ S .kept;
-          beyond = ap (λ (z : Scan). drop H (z .work)) q ∙ mark-beyond H (fan H rows i) work (fan-in H rows thirds i b) ∙ S .beyond;
-          marks = λ k m. rw (add-one i) (rw (sym same ∙ t) (
-              ap (λ (z : Scan). is-marked (z .work) k) q ∙ marked (fan H rows i) work k (omega (arith, S .kept))
-              ∙ ap (λ (y : Bool). y || is-in k (fan H rows i)) (S .marks k m) ∙ sym (in-append k (before .seen) (fan H rows i))));
-          are = rw (add-one i) (rw (sym same ∙ t) (
-              ap (λ (z : Scan). z .found) q ∙ ap (push-all capacity (those N rows (fan H rows i) (fan H rows i))) (S .are)
-              ∙ sym (push-append capacity (before .list) (those N rows (fan H rows i) (fan H rows i)) (entries list₀ 0))));
+            → Marking H N capacity rows work₀ list₀ (i + 1) (mark-all (fan H rows i) work) (push-all capacity (picked (is-duplicate N rows (fan H rows i)) (fan H rows i)) s)
+        walked t = record {
+          scanning = scanning-walked H N capacity rows list₀ (S .scanning) b t _ (λ k l. marked (fan H rows i) work k (omega (arith, S .kept)));
+          kept = length-mark (fan H rows i) work ∙ S .kept;
+          beyond = mark-beyond H (fan H rows i) work (fan-in H rows thirds i b) ∙ S .beyond;
         }
-
-  pub scanning-done : {i : ℕ} {work : List ℕ} {s : Entries} → Scanning H N capacity rows work₀ list₀ i work s → H ≤ i → capacity ≤ length list₀
-      → s ≡ found H N capacity rows list₀
-  scanning-done {i} S m long = let e : i ≡ H = omega (arith, S .upto) in (rw e at (S .are)) ∙ pushed capacity list₀ long (duplicates H N rows)

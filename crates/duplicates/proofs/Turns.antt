@@ -1,7 +1,7 @@
 -- The walk of a fan, turn by turn: what is left of it where it goes on, and where it does not. And what each of the loops over it does in
 -- a turn: what is still to be walked, put to what is done, is the whole.
 use mathlib.Core.Path.{_≡_, refl, sym, ap, _∙_}
-use mathlib.Core.Bool.{true, false, cond, _&&_}
+use mathlib.Core.Bool.{Bool, true, false, cond, _&&_}
 use mathlib.Core.List.{List, [], _∷_}
 use Prim.Native.Nat.{ℕ, zero, suc, _-_, _%_, _<_}
 use native.Mathlib.Omega.{arith}
@@ -15,8 +15,8 @@ use Rattle.numbers.specs.Next.{next}
 use Rattle.numbers.proofs.Names.{at-inj, nothing-not-at, names-below}
 use Rattle.numbers.proofs.NextLaws.{next-in}
 use Rattle.rows.specs.Halfedges.{pairOf}
-use Rattle.searches.specs.Duplicates.{turns, ends-alike, is-duplicate, those}
-use Rattle.duplicates.specs.Scan.{turn-on, Entries, push, push-all, mark-all}
+use Rattle.searches.specs.Duplicates.{turns, ends-alike, is-duplicate}
+use Rattle.duplicates.specs.Scan.{turn-on, Entries, push, push-all, picked, mark-all}
 
 module _ (H : ℕ) (rows : List ℤ) (home : ℕ) where
   abbrev on : Named → Named
@@ -72,22 +72,22 @@ module _ (H : ℕ) (rows : List ℤ) (home : ℕ) where
     unfolding is-duplicate
     dup-none t e = rw (t, turns-stop n d e)
 
-  -- ---- the duplicates of the walk w are listed
-  module _ (N : ℕ) (w : List ℕ) (capacity n c : ℕ) (s s' : Entries) (is : s' ≡ cond (is-duplicate N rows w c) (push capacity c s) s) where
-    one : (cs : List ℕ) → push-all capacity (those N rows w cs) s' ≡ push-all capacity (those N rows w (c ∷ cs)) s
-    unfolding those push-all
-    one cs = by-test (is-duplicate N rows w c) (λ t. rw (is, t)) (λ t. rw (is, t))
+  -- ---- those of the walk of which a test holds are listed
+  module _ (f : ℕ → Bool) (capacity n c : ℕ) (s s' : Entries) (is : s' ≡ cond (f c) (push capacity c s) s) where
+    one : (cs : List ℕ) → push-all capacity (picked f cs) s' ≡ push-all capacity (picked f (c ∷ cs)) s
+    unfolding picked push-all
+    one cs = by-test (f c) (λ t. rw (is, t)) (λ t. rw (is, t))
 
-    pub push-on : (q : ℕ) → turn-on H rows home n c ≡ at q
-        → push-all capacity (those N rows w (q ∷ turns H rows home (n - 1) q)) s' ≡ push-all capacity (those N rows w (c ∷ turns H rows home n c)) s
-    push-on q e = ap (λ (cs : List ℕ). push-all capacity (those N rows w cs) s') (sym (turns-go n c q e)) ∙ one (turns H rows home n c)
-
-    none : s' ≡ push-all capacity (those N rows w []) s'
-    unfolding those push-all
+    none : s' ≡ push-all capacity (picked f []) s'
+    unfolding picked push-all
     none = refl
 
-    pub push-done : turn-on H rows home n c ≡ nothing → s' ≡ push-all capacity (those N rows w (c ∷ turns H rows home n c)) s
-    push-done e = none ∙ ap (λ (cs : List ℕ). push-all capacity (those N rows w cs) s') (sym (turns-stop n c e)) ∙ one (turns H rows home n c)
+    pub push-on : (q : ℕ) → turn-on H rows home n c ≡ at q
+        → push-all capacity (picked f (q ∷ turns H rows home (n - 1) q)) s' ≡ push-all capacity (picked f (c ∷ turns H rows home n c)) s
+    push-on q e = ap (λ (cs : List ℕ). push-all capacity (picked f cs) s') (sym (turns-go n c q e)) ∙ one (turns H rows home n c)
+
+    pub push-done : turn-on H rows home n c ≡ nothing → s' ≡ push-all capacity (picked f (c ∷ turns H rows home n c)) s
+    push-done e = none ∙ ap (λ (cs : List ℕ). push-all capacity (picked f cs) s') (sym (turns-stop n c e)) ∙ one (turns H rows home n c)
 
   -- ---- the walk is marked
   module _ (n c : ℕ) (work work' : List ℕ) (is : work' ≡ set work c 1) where

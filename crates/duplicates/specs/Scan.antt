@@ -2,14 +2,14 @@
 -- front of a list on, as far as a capacity goes.
 use mathlib.Core.Bool.{Bool, cond, _&&_, _||_, not}
 use mathlib.Core.List.{List, [], _∷_, _++_}
-use Prim.Native.Nat.{ℕ, zero, suc, _+_}
+use Prim.Native.Nat.{ℕ, _+_}
 use lib.Dec.{eqb, ltb}
 use lib.IntN.{ℤ}
 use lib.ListN.{length, getD, set, take, drop}
 use Rattle.numbers.specs.Numbers.{Named, at, nothing, names, named-or}
 use Rattle.numbers.specs.Next.{next}
 use Rattle.rows.specs.Halfedges.{pairOf, is-started, is-ended}
-use Rattle.searches.specs.Duplicates.{fan, those, duplicates}
+use Rattle.searches.specs.Duplicates.{fan, is-duplicate, duplicates}
 
 -- ---- a walk from `home` is at c, with n turns left: where it goes on, if no turn brings it home and a partner leads on
 unfoldable pub turn-on : ℕ → List ℤ → ℕ → ℕ → ℕ → Named
@@ -33,6 +33,11 @@ unfoldable pub push-all : ℕ → List ℕ → Entries → Entries
 push-all capacity [] s = s
 push-all capacity (x ∷ xs) s = push-all capacity xs (push capacity x s)
 
+-- those of which a test holds
+unfoldable pub picked : (ℕ → Bool) → List ℕ → List ℕ
+picked f [] = []
+picked f (c ∷ cs) = cond (f c) (c ∷ picked f cs) (picked f cs)
+
 -- ---- the marks
 abbrev pub is-marked : List ℕ → ℕ → Bool
 is-marked work h = not (eqb (getD work h 0) 0)
@@ -55,11 +60,7 @@ is-passed rows i work = is-marked work i || not (is-started rows i && is-ended r
 unfoldable pub scan-row : ℕ → ℕ → ℕ → List ℤ → ℕ → Scan → Scan
 scan-row H N capacity rows i s =
     cond (is-passed rows i (s .work)) s
-    (scan (mark-all (fan H rows i) (s .work)) (push-all capacity (those N rows (fan H rows i) (fan H rows i)) (s .found)))
-
-unfoldable pub scan-rows : ℕ → ℕ → ℕ → List ℤ → ℕ → Scan → Scan
-scan-rows H N capacity rows zero s = s
-scan-rows H N capacity rows (suc i) s = scan-row H N capacity rows i (scan-rows H N capacity rows i s)
+    (scan (mark-all (fan H rows i) (s .work)) (push-all capacity (picked (is-duplicate N rows (fan H rows i)) (fan H rows i)) (s .found)))
 
 -- ---- what is left: as many of the duplicates as the capacity allows, from the front of the list on, the rest kept
 abbrev pub listed : List ℕ → List ℕ → List ℕ

@@ -9,14 +9,14 @@ ghost use Rattle.numbers.specs.Next.{most-halfedges};
 ghost use Rattle.numbers.specs.Numbers.{halfedgeNumber, halfedgeNamed, names, is-named};
 ghost use Rattle.rows.specs.Halfedges.{endOf, lent-halfedges};
 ghost use Rattle.steps.specs.Steps.{InUse};
-ghost use Rattle.searches.specs.Duplicates.{fan, ends-alike, is-duplicate, those};
-ghost use Rattle.duplicates.specs.Scan.{turn-on, entries, push, push-all, is-passed, mark-all, scan, scan-row, found};
+ghost use Rattle.searches.specs.Duplicates.{fan, ends-alike, is-duplicate};
+ghost use Rattle.duplicates.specs.Scan.{turn-on, entries, push, push-all, picked, is-passed, mark-all, scan, scan-row, found};
 use numbers::Halfedge;
 use numbers::NamedHalfedge;
 use numbers::NamedVertex;
 
 // Where the walk from `home` goes on from c, with so many turns left.
-fn turn_on(
+pub fn turn_on(
     rows: &[i32],
     halfedges: usize,
     home: Halfedge,
@@ -80,7 +80,7 @@ fn is_duplicate(rows: &[i32], halfedges: usize, vertices: usize, i: Halfedge, c:
 }
 
 // Puts h behind the entries, where it is to be listed and the capacity is not reached. How many there are then.
-fn push_if(list: &mut [u32], capacity: usize, count: usize, there: bool, h: Halfedge) -> usize
+pub fn push_if(list: &mut [u32], capacity: usize, count: usize, there: bool, h: Halfedge) -> usize
     requires { ⌜ (capacity ≤ length (now list)) × (halfedgeNumber h < most-halfedges) ⌝ }
     ensures { λ r. ⌜ entries (now (list .exit)) r ≡ cond there (push capacity (halfedgeNumber h) (entries (now (list .entry)) count)) (entries (now (list .entry)) count) ⌝ }
 {
@@ -105,7 +105,7 @@ fn push_fan(
     i: Halfedge,
 ) -> usize
     requires { ⌜ (halfedgeNumber i < halfedges) × (InUse halfedges (now rows) × (capacity ≤ length (now list))) ⌝ }
-    ensures { λ r. ⌜ entries (now (list .exit)) r ≡ push-all capacity (those vertices (now (rows .entry)) (fan halfedges (now (rows .entry)) (halfedgeNumber i)) (fan halfedges (now (rows .entry)) (halfedgeNumber i))) (entries (now (list .entry)) count) ⌝ }
+    ensures { λ r. ⌜ entries (now (list .exit)) r ≡ push-all capacity (picked (is-duplicate vertices (now (rows .entry)) (fan halfedges (now (rows .entry)) (halfedgeNumber i))) (fan halfedges (now (rows .entry)) (halfedgeNumber i))) (entries (now (list .entry)) count) ⌝ }
 {
     let mut c = i;
     let mut left = halfedges;

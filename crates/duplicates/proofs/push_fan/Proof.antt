@@ -5,8 +5,8 @@ use Prim.Native.Nat.{_<_}
 use native.Mathlib.Omega.{arith}
 use lib.ListN.{length}
 use Rattle.numbers.specs.Numbers.{halfedgeNumber, halfedgeNamed}
-use Rattle.searches.specs.Duplicates.{turns, fan, is-duplicate, those}
-use Rattle.duplicates.specs.Scan.{turn-on, entries, push-all}
+use Rattle.searches.specs.Duplicates.{turns, fan, is-duplicate}
+use Rattle.duplicates.specs.Scan.{turn-on, entries, push-all, picked}
 use Rattle.duplicates.proofs.Turns.{turns-some, turns-below, push-on, push-done}
 use borrow.Author.Needs.{needs}
 use Rattle.duplicates.proofs.push_fan.Statement.{statement}
@@ -16,8 +16,8 @@ abbrev Inv-loop : tie.InvT-loop
 Inv-loop rows list₀ halfedges vertices capacity count i c₀ left₀ n₀ list c left n =
     (halfedgeNumber c < halfedges)
     × ((length list ≡ length list₀)
-    × (push-all capacity (those vertices rows (fan halfedges rows (halfedgeNumber i)) (halfedgeNumber c ∷ turns halfedges rows (halfedgeNumber i) left (halfedgeNumber c))) (entries list n)
-    ≡ push-all capacity (those vertices rows (fan halfedges rows (halfedgeNumber i)) (fan halfedges rows (halfedgeNumber i))) (entries list₀ n₀)))
+    × (push-all capacity (picked (is-duplicate vertices rows (fan halfedges rows (halfedgeNumber i))) (halfedgeNumber c ∷ turns halfedges rows (halfedgeNumber i) left (halfedgeNumber c))) (entries list n)
+    ≡ push-all capacity (picked (is-duplicate vertices rows (fan halfedges rows (halfedgeNumber i))) (fan halfedges rows (halfedgeNumber i))) (entries list₀ n₀)))
 
 abbrev μ-loop : tie.MeasureT-loop
 μ-loop rows list₀ halfedges vertices capacity count i c₀ left₀ n₀ list c left n = left
@@ -44,7 +44,7 @@ same-length : tie.Need-same-length Inv-loop μ-loop
 same-length c = c .before .before .before .before .before .push-if .kept .0 ∙ c .before .before .before .before .before .before .before .before .loop .inv .1 .0
 
 returns : tie.Need-returns Inv-loop μ-loop
-returns c = let s = c .before .before .before .before .before .before .before .before .before .before .args in push-done (s .halfedges) (s .rows .now) (s .i .0) (s .vertices) (fan (s .halfedges) (s .rows .now) (s .i .0)) (s .capacity) _ _ _ _ (rw (c .before .before .before .before .before .before .before .is-duplicate .ensures) at (c .before .before .before .before .before .push-if .ensures)) (sym (c .before .before .turn-on .ensures) ∙ ap halfedgeNamed (c .enum-told .given .1)) ∙ c .before .before .before .before .before .before .before .before .loop .inv .1 .1
+returns c = let s = c .before .before .before .before .before .before .before .before .before .before .args in push-done (s .halfedges) (s .rows .now) (s .i .0) (is-duplicate (s .vertices) (s .rows .now) (fan (s .halfedges) (s .rows .now) (s .i .0))) (s .capacity) _ _ _ _ (rw (c .before .before .before .before .before .before .before .is-duplicate .ensures) at (c .before .before .before .before .before .push-if .ensures)) (sym (c .before .before .turn-on .ensures) ∙ ap halfedgeNamed (c .enum-told .given .1)) ∙ c .before .before .before .before .before .before .before .before .loop .inv .1 .1
 
 sub-left : tie.Need-sub-left Inv-loop μ-loop
 sub-left c = let s = c .before .before .before .before .before .before .before .before .before .before .before .args in omega (arith, turns-some (s .halfedges) (s .rows .now) (s .i .0) _ _ _ (sym (c .before .before .before .turn-on .ensures) ∙ ap halfedgeNamed (c .before .q .given .1)))
@@ -56,7 +56,7 @@ loop-again : tie.Need-loop-again Inv-loop μ-loop
 loop-again c =
     let s = c .before .before .before .before .before .before .before .before .before .before .before .args in
     let e = sym (c .before .before .before .turn-on .ensures) ∙ ap halfedgeNamed (c .before .q .given .1) in
-    (turns-below (s .halfedges) (s .rows .now) (s .i .0) (c .before .before .before .before .before .before .before .before .before .before .before .pre .1 .0 .0) _ _ _ e, (c .before .before .before .before .before .before .push-if .kept .0 ∙ c .before .before .before .before .before .before .before .before .before .loop .inv .1 .0, push-on (s .halfedges) (s .rows .now) (s .i .0) (s .vertices) (fan (s .halfedges) (s .rows .now) (s .i .0)) (s .capacity) _ _ _ _ (rw (c .before .before .before .before .before .before .before .before .is-duplicate .ensures) at (c .before .before .before .before .before .before .push-if .ensures)) _ e ∙ c .before .before .before .before .before .before .before .before .before .loop .inv .1 .1))
+    (turns-below (s .halfedges) (s .rows .now) (s .i .0) (c .before .before .before .before .before .before .before .before .before .before .before .pre .1 .0 .0) _ _ _ e, (c .before .before .before .before .before .before .push-if .kept .0 ∙ c .before .before .before .before .before .before .before .before .before .loop .inv .1 .0, push-on (s .halfedges) (s .rows .now) (s .i .0) (is-duplicate (s .vertices) (s .rows .now) (fan (s .halfedges) (s .rows .now) (s .i .0))) (s .capacity) _ _ _ _ (rw (c .before .before .before .before .before .before .before .before .is-duplicate .ensures) at (c .before .before .before .before .before .before .push-if .ensures)) _ e ∙ c .before .before .before .before .before .before .before .before .before .loop .inv .1 .1))
 
 pub push-fan-spec : {M : Type 1} → statement M
 push-fan-spec =

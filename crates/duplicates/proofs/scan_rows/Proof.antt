@@ -4,20 +4,20 @@ use Prim.Native.Nat.{_-_}
 use native.Mathlib.Omega.{arith}
 use lib.ListN.{length}
 use Rattle.duplicates.specs.Scan.{entries, scan-row}
-use Rattle.duplicates.proofs.Scans.{Scanning, scanning-begins, scanning-on, scanning-done}
+use Rattle.duplicates.proofs.Scans.{Marking, marking-begins, marking-on, scanning-done}
 use borrow.Author.Needs.{needs}
 use Rattle.duplicates.proofs.scan_rows.Statement.{statement}
 use Rattle.duplicates.proofs.scan_rows.Tie as tie
 
 abbrev Inv-loop : tie.InvT-loop
 Inv-loop rows work₀ list₀ halfedges vertices capacity count₀ i₀ work list count i =
-    Scanning halfedges vertices capacity rows work₀ list₀ i work (entries list count) × (length list ≡ length list₀)
+    Marking halfedges vertices capacity rows work₀ list₀ i work (entries list count) × (length list ≡ length list₀)
 
 abbrev μ-loop : tie.MeasureT-loop
 μ-loop rows work₀ list₀ halfedges vertices capacity count₀ i₀ work list count i = halfedges - i
 
 loop-holds : tie.Need-loop-holds Inv-loop μ-loop
-loop-holds c = (scanning-begins _ _ _ _ _ _ _ refl refl (c .before .before .pre .1 .1 .1), refl)
+loop-holds c = (marking-begins _ _ _ _ _ _ (c .before .before .pre .1 .1 .1), refl)
 
 halfedge-counted-requires : tie.Need-halfedge-counted-requires Inv-loop μ-loop
 halfedge-counted-requires c κs = search needs
@@ -34,7 +34,7 @@ loop-less c = omega arith
 loop-again : tie.Need-loop-again Inv-loop μ-loop
 loop-again c =
     let s = c .before .before .before .before .before .before .before .before .before .before .before .before .args in
-    (scanning-on (s .halfedges) (s .vertices) (s .capacity) (s .rows .now) _ _ (c .before .before .before .before .before .before .before .before .before .loop .inv .0) (c .before .before .before .before .before .before .before .before .loop-test .taken) (c .before .before .before .before .before .before .before .before .before .before .before .before .pre .0 .0) (c .before .before .before .before .before .before .before .before .before .before .before .before .pre .1 .0) _ _ (rw (c .before .before .before .before .before .before .before .halfedge-counted .ensures) at (c .before .before .before .before .scan-row .ensures)), c .before .before .before .before .scan-row .kept .1 .1 .0 ∙ c .before .before .before .before .before .before .before .before .before .loop .inv .1)
+    (marking-on (s .halfedges) (s .vertices) (s .capacity) (s .rows .now) _ _ (c .before .before .before .before .before .before .before .before .before .loop .inv .0) (c .before .before .before .before .before .before .before .before .loop-test .taken) (c .before .before .before .before .before .before .before .before .before .before .before .before .pre .0 .0) (c .before .before .before .before .before .before .before .before .before .before .before .before .pre .1 .0) _ _ (rw (c .before .before .before .before .before .before .before .halfedge-counted .ensures) at (c .before .before .before .before .scan-row .ensures)), c .before .before .before .before .scan-row .kept .1 .1 .0 ∙ c .before .before .before .before .before .before .before .before .before .loop .inv .1)
 
 same-length : tie.Need-same-length Inv-loop μ-loop
 same-length c = c .before .loop .inv .0 .kept
@@ -45,7 +45,7 @@ same-length-2 c = c .before .loop .inv .1
 returns : tie.Need-returns Inv-loop μ-loop
 returns c =
     let s = c .before .before .before .before .args in
-    (scanning-done (s .halfedges) (s .vertices) (s .capacity) (s .rows .now) _ _ (c .before .loop .inv .0) (c .loop-test .left) (c .before .before .before .before .pre .1 .1 .0), c .before .loop .inv .0 .beyond)
+    (scanning-done (s .halfedges) (s .vertices) (s .capacity) (s .rows .now) _ (c .before .loop .inv .0 .scanning) (c .loop-test .left) (c .before .before .before .before .pre .1 .1 .0), c .before .loop .inv .0 .beyond)
 
 pub scan-rows-spec : {M : Type 1} → statement M
 scan-rows-spec =
