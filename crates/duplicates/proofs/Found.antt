@@ -62,6 +62,9 @@ module _ (H N capacity : ℕ) (rows : List ℤ) (list₀ list : List ℕ) (count
   pub found-count : count ≡ length all
   found-count = ap (λ (s : Entries). s .count) e
 
+  pub found-fits : count ≤ capacity
+  found-fits = omega (arith, found-count, length-take capacity (duplicates H N rows))
+
   pub found-front : take count list ≡ all
   found-front = ap (take count) list-is ∙ take-at all (drop (length all) list₀) count (sym found-count)
 
@@ -72,5 +75,5 @@ module _ (H N capacity : ℕ) (rows : List ℤ) (list₀ list : List ℕ) (count
 
   pub found-beyond : drop capacity list ≡ drop capacity list₀
   found-beyond =
-      drop-more (length all) capacity list list₀ (omega (arith, length-take capacity (duplicates H N rows)))
+      drop-more (length all) capacity list list₀ (omega (arith, found-count, found-fits))
       (ap (drop (length all)) list-is ∙ drop-at all (drop (length all) list₀) (length all) refl)

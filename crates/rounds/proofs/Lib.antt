@@ -1,2 +1,3 @@
 pub mod Grown
+pub mod Steps
 pub mod Told

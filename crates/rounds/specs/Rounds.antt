@@ -3,11 +3,16 @@ use mathlib.Core.Bool.{Bool, true, false, cond}
 use mathlib.Core.List.{List, [], _∷_}
 use Prim.Native.Nat.{ℕ, zero, suc}
 use lib.Dec.{eqb}
+use lib.IntN.{ℤ}
 use lib.ListN.{take}
 use Rattle.growth.specs.declared.Limits.{Limits}
-use Rattle.growth.specs.Growth.{Growing, rows-of, halted}
+use Rattle.growth.specs.declared.Grown.{Grown}
+use Rattle.growth.specs.Growth.{Growing, so-far, rows-of, halted}
 use Rattle.searches.specs.Duplicates.{duplicates, still}
 use Rattle.dedupe.specs.Dedupe.{dedupe-at}
+use Rattle.rounds.specs.declared.Rounded.{Rounded as RoundsEnd}
+use Rattle.rounds.specs.declared.Made.{Made}
+use Rattle.rounds.specs.declared.Made.the-variants as M
 
 -- ---- a round, and the rounds: at most n more
 -- one entry of the list: an earlier one may have mended it
@@ -40,3 +45,25 @@ rounds l zero w = rounded w (eqb (w .count) 0)
 rounds l (suc n) w =
     cond (halted w) (rounded w false)
     (cond (no-entry (to-do l w)) (rounded w true) (rounds l n (each l (to-do l w) w)))
+
+-- ---- one round as it is made: it was the last, or the rounds go on
+pub data Went : Type 0 where
+  last : Rounded → Went
+  on : Growing → Went
+
+unfoldable pub round : Limits → Growing → Went
+round l w =
+    cond (halted w) (last (rounded w false))
+    (cond (no-entry (to-do l w)) (last (rounded w true)) (on (each l (to-do l w) w)))
+
+-- what is answered, with what the arrays hold then
+abbrev pub ended-as : List ℤ → List ℕ → List ℕ → List ℤ → RoundsEnd → Rounded
+ended-as rows positions normals references r = rounded (so-far rows positions normals references (r .grown)) (r .clean)
+
+abbrev pub made-as : List ℤ → List ℕ → List ℕ → List ℤ → Made → Went
+made-as rows positions normals references (M.Last r) = last (ended-as rows positions normals references r)
+made-as rows positions normals references (M.On g) = on (so-far rows positions normals references g)
+
+abbrev pub grown-of : Made → Grown
+grown-of (M.Last r) = r .grown
+grown-of (M.On g) = g
