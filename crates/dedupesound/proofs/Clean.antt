@@ -21,6 +21,7 @@ use Rattle.turning.specs.Fan.{iter, Reach, Turning}
 use Rattle.turning.proofs.Fans.{turning}
 use Rattle.turning.proofs.Orbit.{Period, iter-suc, live-reach, reach-trans, period, soon}
 use Rattle.searches.specs.Duplicates.{turns, fan, ends-alike, is-duplicate, those, is-in, Search, search, search-row, search-rows, duplicates}
+use Rattle.dedupesound.specs.Clean.{NoDuplicates}
 
 -- membership
 in-append : (h : ℕ) (xs ys : List ℕ) → is-in h (xs ++ ys) ≡ is-in h xs || is-in h ys
@@ -151,7 +152,7 @@ module _ (H N : ℕ) (rows : List ℤ) (thirds : H % 3 ≡ 0) (in-order : (h : �
   rows-cover (suc i) b e = row-covers i (search-rows H N rows i) (omega arith) (λ z. rows-cover i (omega arith) z) e
 
   -- no two different live half-edges of one fan have the same end
-  pub no-duplicates : duplicates H N rows ≡ [] → (h g : ℕ) → Live H rows h → Reach (turn rows) h g → endOf rows h ≡ endOf rows g → h ≡ g
+  pub no-duplicates : duplicates H N rows ≡ [] → NoDuplicates H rows
   no-duplicates e h g l r z =
       let all = rows-cover H (le-refl _) e in
       let c = all .met h (all .all h (l .in-use) l) in

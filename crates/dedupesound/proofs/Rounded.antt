@@ -6,6 +6,7 @@ use mathlib.Core.Logic.{_⊎_, inl, inr}
 use Prim.Native.Nat.{ℕ, zero, suc, _%_, _<_, _≤_}
 use native.Mathlib.Nat.{le-refl}
 use native.Mathlib.Omega.{arith}
+use borrow.Author.Tests.{eqb-true}
 use lib.Dec.{eqb}
 use lib.IntN.{ℤ}
 use lib.ListN.{take}
@@ -150,6 +151,16 @@ module _ (l : Limits) where
   raise b (inl z) = inl z
   raise b (inr o) = inr (record { rows = o .rows; positions = o .positions; N = o .N; H = o .H; normals = o .normals; references = o .references; is = o .is; fits = o .fits; vertices-fit = o .vertices-fit; faces-fit = o .faces-fit; in-order = o .in-order; above = let a = o .above in omega arith })
 
+  -- one round: what it lists is below the half-edges in use, and still is while they grow
+  round-goes : (least : ℕ) (w : Growing) → Ordered l least w → Left l least (each l (to-do l w) w)
+  round-goes least w o = raise (o .above) (each-goes (o .H) (to-do l w) w listed (inr again-there))
+    where
+      listed : Below (o .H) (to-do l w)
+      listed = subst (λ (x : Growing). Below (o .H) (to-do l x)) (sym (o .is)) (below-take (o .H) (l .halfedges) _ (rows-below (o .H) (o .N) (o .rows) (o .fits .thirds) (o .H) (le-refl _)))
+
+      again-there : Ordered l (o .H) w
+      again-there = record { rows = o .rows; positions = o .positions; N = o .N; H = o .H; normals = o .normals; references = o .references; is = o .is; fits = o .fits; vertices-fit = o .vertices-fit; faces-fit = o .faces-fit; in-order = o .in-order; above = le-refl _ }
+
   pub rounds-goes : (least n : ℕ) (w : Growing) → Left l least w → Left l least (rounds l n w .growing)
   unfolding rounds
   rounds-goes least zero w o = o
@@ -160,10 +171,18 @@ module _ (l : Limits) where
       (λ s.
       by-test (no-entry (to-do l w))
       (λ t. rw (s, t) (inr o))
-      (λ t. rw (s, t) (rounds-goes least n (each l (to-do l w) w) (raise (o .above) (each-goes (o .H) (to-do l w) w listed (inr again-there))))))
-    where
-      listed : Below (o .H) (to-do l w)
-      listed = subst (λ (x : Growing). Below (o .H) (to-do l x)) (sym (o .is)) (below-take (o .H) (l .halfedges) _ (rows-below (o .H) (o .N) (o .rows) (o .fits .thirds) (o .H) (le-refl _)))
+      (λ t. rw (s, t) (rounds-goes least n (each l (to-do l w) w) (round-goes least w o))))
 
-      again-there : Ordered l (o .H) w
-      again-there = record { rows = o .rows; positions = o .positions; N = o .N; H = o .H; normals = o .normals; references = o .references; is = o .is; fits = o .fits; vertices-fit = o .vertices-fit; faces-fit = o .faces-fit; in-order = o .in-order; above = le-refl _ }
+  -- rounds that end clean: there is no half-edge, or the last round found nothing to do
+  pub rounds-end : (least n : ℕ) (w : Growing) → Left l least w → rounds l n w .clean ≡ true →
+      (rounds l n w .growing .count ≡ 0) ⊎ (Ordered l least (rounds l n w .growing) × (no-entry (to-do l (rounds l n w .growing)) ≡ true))
+  unfolding rounds
+  rounds-end least zero w o e = inl (eqb-true (w .count) 0 e)
+  rounds-end least (suc n) w (inl z) e = absurd (true≢false (sym (rw (no-room-halts w z) at e)))
+  rounds-end least (suc n) w (inr o) e =
+      by-test (halted w)
+      (λ s. absurd (true≢false (sym (rw s at e))))
+      (λ s.
+      by-test (no-entry (to-do l w))
+      (λ t. rw (s, t) (inr (o, t)))
+      (λ t. rw (s, t) (rounds-end least n (each l (to-do l w) w) (round-goes least w o) (rw (s, t) at e))))

@@ -1,6 +1,7 @@
 -- dedupe_edge's steps and the rounds of dedupe_edges on a sound net: there is no room, or the net is sound afterwards, over the half-edges
 -- and vertices that are then in use. They never stop.
 use mathlib.Core.Path.{_≡_, refl}
+use mathlib.Core.Bool.{true}
 use mathlib.Core.List.{List}
 use mathlib.Core.Logic.{_⊎_, inl, inr}
 use Prim.Native.Nat.{ℕ, _+_, _<_}
@@ -23,9 +24,11 @@ use Rattle.dedupe.specs.Dedupe.{dedupe-at}
 use Rattle.rounds.specs.Rounds.{rounds}
 use Rattle.dedupesound.specs.Grown.{with-growth}
 use Rattle.dedupesound.specs.Deduped.{Deduped}
+use Rattle.dedupesound.specs.Clean.{NoDuplicates}
 use Rattle.dedupesound.proofs.Shape.{shaped-grown}
 use Rattle.dedupesound.proofs.Steps.{Went, OutWith}
 use Rattle.dedupesound.proofs.Dedupes.{dedupe-left}
+use Rattle.dedupesound.proofs.Cleans as C
 use Rattle.dedupesound.proofs.Rounded.{Ordered, Left, ordered, rounds-goes}
 
 -- how a net is left: there is no room, or it is sound over the counts that are then in use
@@ -87,6 +90,10 @@ module _ (c : Counts) (n : Net) (sound : Sound c n) where
   -- the rounds
   pub rounds-sound : (k : ℕ) → (rounds l k at-entry .growing .middle .run .how ≡ NoRoom) ⊎ SoundAfter c (n .properties) (rounds l k at-entry .growing)
   rounds-sound k = left-sound (rounds l k at-entry .growing) (c .halfedges) (rounds-goes l (c .halfedges) k at-entry (inr begun-ordered))
+
+  -- and where they end clean there are no duplicates
+  pub rounds-clean : (k : ℕ) → rounds l k at-entry .clean ≡ true → NoDuplicates (rounds l k at-entry .growing .count) (rows-of (rounds l k at-entry .growing))
+  rounds-clean k e = C.rounds-clean l (c .halfedges) k at-entry (inr begun-ordered) e
 
   -- one half-edge, with what is left in words
   module _ (e : ℕ) (le : Live (c .halfedges) (n .halfedges) e) where
