@@ -1,1 +1,1 @@
-pub mod Collapse
+pub mod CollapseEdge
