@@ -95,6 +95,15 @@ typedef struct {
     size_t vertices;
 } spoonferret_loop_answer;
 
+/* halfedges and vertices: rows in use afterwards (normals and references, where in use, have a row for each triangle); row: the least row
+   not in order. */
+typedef struct {
+    uint32_t number;
+    size_t row;
+    size_t halfedges;
+    size_t vertices;
+} spoonferret_dedupe_edge_answer;
+
 /* count: half-edges listed. */
 typedef struct {
     uint32_t number;
@@ -206,6 +215,31 @@ spoonferret_split_answer spoonferret_split_pinched_verts(spoonferret_used used, 
                                                          size_t references_length, const uint64_t *properties,
                                                          size_t properties_length, uint32_t *work, size_t work_length,
                                                          uint32_t *visit, size_t visit_length);
+
+/* Takes a duplicate edge apart. A half-edge is duplicated where another of its fan (those that start at the same vertex and that turning
+   joins) ends at the same vertex. The search goes about the end of halfedge, from partner of next to partner of next, and stops the moment it
+   meets a half-edge that starts where halfedge starts, or comes back to halfedge. Where it meets one, a copy of the end's position is appended
+   and set on the half-edges between, and two triangles are appended that fill the gap, with the props, references and normals of what lies beside
+   them. Where it comes back, the whole fan of the end gets a copy of the end's position. Then the same search goes about the start, for a half-edge
+   that starts where halfedge ended: where it comes back, a copy of the END's position is appended and set on the whole fan of the start.
+   So it is meant for a half-edge that is duplicated: on another it moves corners, as the original does.
+   New rows go behind those in use of halfedges, positions, and normals and references where they are in use. Room is counted at the call: the half-edge
+   capacity is three times the least of the triangles lent in halfedges, in normals and in references (those in use) and 1,000,000; the vertex
+   capacity the rows lent of positions and at most 1,000,000.
+   spare_halfedges needs 4 * used.halfedges elements, spare_positions 3 * used.vertices.
+   0: done; halfedges is used.halfedges or 6 more, vertices 1 or 2 more than used.vertices, and over so many the net is sound. 1: shape. 2: a spare is
+   too short. 3: not sound; row. 4: halfedge is not in 0..used.halfedges. 5: it is dead. 6: a copy or a triangle finds no free row. 7: a step would read a
+   row that is not there, or a walk does not end; a sound net never comes to it.
+   After 6 and 7 the rows in use are as they were, and the free rows that had been filled read zero, of all four arrays; the others are as they were.
+   After 0, 6 and 7 the spares hold the rows in use as they were at the call, over the needed lengths, and are unchanged beyond; after 1 to 5
+   the spares are as they were. */
+spoonferret_dedupe_edge_answer spoonferret_dedupe_edge(spoonferret_used used, int32_t *halfedges, size_t halfedges_length,
+                                                       uint64_t *positions, size_t positions_length, uint64_t *normals,
+                                                       size_t normals_length, int32_t *references, size_t references_length,
+                                                       const uint64_t *properties, size_t properties_length,
+                                                       int32_t *spare_halfedges, size_t spare_halfedges_length,
+                                                       uint64_t *spare_positions, size_t spare_positions_length,
+                                                       int32_t halfedge);
 
 #ifdef __cplusplus
 }

@@ -274,6 +274,117 @@ static void split(void) {
     EXPECT(told.number == 3 && told.row == 0 && told.added == 0 && told.steps == 0);
 }
 
+/* the edge from 0 to 1 is there twice, as half-edges 0 and 9; prop_vert is the row's number */
+static const int32_t pillows[48] = {0, 1, 6, 0, 1, 2, 5,  1, 2, 0, 4,  2, 1, 0, 9, 3, 0, 2, 2, 4,  2, 1, 1, 5,
+                                    1, 0, 0, 6, 0, 3, 11, 7, 3, 1, 10, 8, 0, 1, 3, 9, 1, 3, 8, 10, 3, 0, 7, 11};
+/* what taking 9 apart leaves: two triangles more, and a vertex 4 where vertex 1 is */
+static const int32_t apart[72] = {0, 1, 6,  0, 1, 2, 14, 1, 2, 0, 4,  2, 4, 0, 9,  3, 0, 2, 2,  4, 2, 4, 13, 5,
+                                  1, 0, 0,  6, 0, 3, 11, 7, 3, 1, 16, 8, 0, 4, 3,  9, 4, 3, 17, 10, 3, 0, 7, 11,
+                                  1, 4, 15, 10, 4, 2, 5,  10, 2, 1, 1,  5, 4, 1, 12, 10, 1, 3, 8, 10, 3, 4, 10, 8};
+
+/* a net with room behind it, faces, and everything that the repairs borrow */
+typedef struct {
+    spoonferret_used used;
+    size_t lent_rows, lent_positions, lent_faces;
+    int32_t rows[84], references[24], spare_rows[74];
+    uint64_t positions[24], normals[24], spare_positions[17];
+    uint32_t work[30], list[26];
+} lent_net;
+
+#define ROOMY                                                                                                             \
+    n.used, n.rows, 4 * n.lent_rows, n.positions, 3 * n.lent_positions, n.normals, 3 * n.lent_faces, n.references,        \
+        3 * n.lent_faces, no_numbers, 0
+#define SPARES n.spare_rows, 74, n.spare_positions, 17
+
+static lent_net roomy(size_t triangles, size_t vertices) {
+    lent_net n;
+    memset(&n, 0x55, sizeof n);
+    n.used = (spoonferret_used){.halfedges = 12, .vertices = 4, .normals = 4, .references = 4};
+    n.lent_rows = 12 + 3 * triangles;
+    n.lent_positions = 4 + vertices;
+    n.lent_faces = 4 + triangles;
+    memcpy(n.rows, pillows, sizeof pillows);
+    memcpy(n.positions, points, 12 * sizeof *n.positions);
+    for (int i = 0; i < 12; i++) {
+        n.references[i] = i;
+        n.normals[i] = 100 + (uint64_t)i;
+    }
+    return n;
+}
+
+/* as it was, but for so many free half-edge rows, faces and vertices, which read zero, and the spares, which are filled */
+static int put_back(const lent_net *n, size_t triangles, size_t vertices) {
+    lent_net owed = roomy(0, 0);
+    memset(owed.rows + 48, 0, 12 * triangles * sizeof *owed.rows);
+    memset(owed.references + 12, 0, 3 * triangles * sizeof *owed.references);
+    memset(owed.normals + 12, 0, 3 * triangles * sizeof *owed.normals);
+    memset(owed.positions + 12, 0, 3 * vertices * sizeof *owed.positions);
+    return memcmp(n->rows, owed.rows, sizeof owed.rows) == 0 && memcmp(n->references, owed.references, sizeof owed.references) == 0 &&
+           memcmp(n->normals, owed.normals, sizeof owed.normals) == 0 && memcmp(n->positions, owed.positions, sizeof owed.positions) == 0;
+}
+
+/* the spares hold the rows as they were, and are unchanged beyond; or nothing was written there */
+static int spares_hold(const lent_net *n, int taken) {
+    lent_net owed = roomy(0, 0);
+    if (taken) {
+        memcpy(owed.spare_rows, owed.rows, 48 * sizeof *owed.rows);
+        memcpy(owed.spare_positions, owed.positions, 12 * sizeof *owed.positions);
+    }
+    return memcmp(n->spare_rows, owed.spare_rows, sizeof owed.spare_rows) == 0 &&
+           memcmp(n->spare_positions, owed.spare_positions, sizeof owed.spare_positions) == 0;
+}
+
+static void dedupe_one(void) {
+    /* refused before the steps: nothing is written, the spares neither */
+    lent_net n = roomy(2, 1);
+    EXPECT(spoonferret_dedupe_edge(ROOMY, n.spare_rows, 47, n.spare_positions, 12, 9).number == 2);
+    EXPECT(spoonferret_dedupe_edge(ROOMY, n.spare_rows, 48, n.spare_positions, 11, 9).number == 2);
+    EXPECT(spoonferret_dedupe_edge(ROOMY, SPARES, 12).number == 4 && spoonferret_dedupe_edge(ROOMY, SPARES, -1).number == 4);
+    n.used.references = 3;
+    EXPECT(spoonferret_dedupe_edge(ROOMY, SPARES, 9).number == 1);
+    n.used.references = 4;
+    EXPECT(put_back(&n, 0, 0) && spares_hold(&n, 0));
+    n.rows[1] = 2;
+    spoonferret_dedupe_edge_answer unsound = spoonferret_dedupe_edge(ROOMY, SPARES, 9);
+    EXPECT(unsound.number == 3 && unsound.row == 0 && unsound.halfedges == 0 && unsound.vertices == 0);
+
+    /* 6 at the copy, the first triangle and the second: what had been filled reads zero */
+    for (size_t triangles = 0; triangles < 3; triangles++) {
+        n = roomy(triangles, triangles == 2 ? 0 : 1);
+        spoonferret_dedupe_edge_answer told = spoonferret_dedupe_edge(ROOMY, SPARES, 9);
+        EXPECT(told.number == 6 && told.row == 0 && told.halfedges == 0 && told.vertices == 0);
+        EXPECT(put_back(&n, triangles == 2 ? 0 : triangles, triangles == 2 ? 0 : 1) && spares_hold(&n, 1));
+    }
+    /* 6 at the second copy: P, of which nothing is there twice, with room for one vertex */
+    n = roomy(0, 0);
+    n.used = (spoonferret_used){.halfedges = 6, .vertices = 3};
+    memcpy(n.rows, example, 24 * sizeof *n.rows);
+    memset(n.positions + 9, 0x55, 15 * sizeof *n.positions);
+    n.lent_positions = 4;
+    EXPECT(spoonferret_dedupe_edge(ROOMY, SPARES, 0).number == 6);
+    EXPECT(memcmp(n.rows, example, 24 * sizeof *n.rows) == 0 && all(n.positions + 9, 3, 0) && n.positions[12] == UINT64_C(0x5555555555555555));
+    /* with room for two both are there, at the END's position */
+    n.lent_positions = 5;
+    spoonferret_dedupe_edge_answer both = spoonferret_dedupe_edge(ROOMY, SPARES, 0);
+    static const int32_t renamed[24] = {4, 3, 3, -1, 3, 2, 5, -1, 2, 4, 4, -1, 3, 4, 0, -1, 4, 2, 2, -1, 2, 3, 1, -1};
+    EXPECT(both.number == 0 && both.row == 0 && both.halfedges == 6 && both.vertices == 5);
+    EXPECT(memcmp(n.rows, renamed, sizeof renamed) == 0);
+    EXPECT(memcmp(n.positions + 9, n.positions + 3, 3 * sizeof *n.positions) == 0);
+    EXPECT(memcmp(n.positions + 12, n.positions + 3, 3 * sizeof *n.positions) == 0);
+
+    /* done: the new triangles have the faces of those beside them */
+    n = roomy(2, 1);
+    spoonferret_dedupe_edge_answer told = spoonferret_dedupe_edge(ROOMY, SPARES, 9);
+    EXPECT(told.number == 0 && told.row == 0 && told.halfedges == 18 && told.vertices == 5);
+    EXPECT(memcmp(n.rows, apart, sizeof apart) == 0 && n.rows[72] == 0x55555555);
+    EXPECT(memcmp(n.positions + 12, n.positions + 3, 3 * sizeof *n.positions) == 0 && n.positions[15] == UINT64_C(0x5555555555555555));
+    EXPECT(memcmp(n.references + 12, n.references + 3, 6 * sizeof *n.references) == 0 && n.references[18] == 0x55555555);
+    EXPECT(memcmp(n.normals + 12, n.normals + 3, 6 * sizeof *n.normals) == 0 && n.normals[18] == UINT64_C(0x5555555555555555));
+    EXPECT(spares_hold(&n, 1));
+    n.used = (spoonferret_used){.halfedges = 18, .vertices = 5, .normals = 6, .references = 6};
+    EXPECT(spoonferret_check_net(ROOMY).number == 0);
+}
+
 int main(void) {
     next_and_tri();
     short_or_long();
@@ -282,6 +393,7 @@ int main(void) {
     loops();
     owners();
     split();
+    dedupe_one();
     printf("%d passed, %d failed\n", passed, failed);
     return failed != 0;
 }

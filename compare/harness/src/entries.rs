@@ -2,7 +2,7 @@
 
 use crate::chance::Chance;
 use crate::lent::{signed, Asked, Guarded, GuardedNet, Lent, Said};
-use crate::reading::{self, caught, Ran};
+use crate::reading::{self, bits_of, caught, Ran};
 use original::impl_mesh::ManifoldImpl;
 use original::linalg::{dot, Vec3};
 use spoonferret::raw;
@@ -57,6 +57,10 @@ fn nothing_asked(_: &Lent, _: &mut Chance) -> Vec<Asked> {
     Asked::nothing()
 }
 
+fn three_times(_: &Lent, _: &mut Chance) -> Vec<Asked> {
+    vec![Asked::default(); 3]
+}
+
 pub const ALL: &[Entry] = &[
     Entry { name: "next_halfedge", on_nets: false, fields: &[Signed("next")], ours: next_ours, owed: next_owed, asks: edge_numbers, all: nothing_asked, lends: no_buffers },
     Entry { name: "tri_of", on_nets: false, fields: &[Signed("first"), Signed("second"), Signed("third")], ours: tri_ours, owed: tri_owed, asks: edge_numbers, all: nothing_asked, lends: no_buffers },
@@ -69,7 +73,7 @@ pub const ALL: &[Entry] = &[
         fields: &[Plain("row"), Plain("added"), Plain("steps")],
         ours: split_ours,
         owed: split_owed,
-        asks: |_, _| vec![Asked::default(); 3],
+        asks: three_times,
         all: nothing_asked,
         lends: split_lends,
     },
@@ -78,7 +82,11 @@ pub const ALL: &[Entry] = &[
     Entry { name: "collapse_tri", on_nets: true, fields: &[Plain("row")], ours: collapse_ours, owed: collapse_owed, asks: halfedge_asks, all: each_halfedge, lends: no_buffers },
     Entry { name: "remove_if_folded", on_nets: true, fields: &[Plain("row")], ours: fold_ours, owed: fold_owed, asks: halfedge_asks, all: each_halfedge, lends: no_buffers },
     Entry { name: "form_loop", on_nets: true, fields: &[Plain("row"), Plain("vertices")], ours: loop_ours, owed: loop_owed, asks: loop_asks, all: each_pair, lends: loop_lends },
+    Entry { name: "dedupe_edge", on_nets: true, fields: GROWN, ours: dedupe_ours, owed: dedupe_owed, asks: halfedge_asks, all: each_halfedge, lends: loop_lends },
 ];
+
+/// What the entries that append triangles and vertices tell.
+const GROWN: &[Field] = &[Plain("row"), Plain("halfedges"), Plain("vertices")];
 
 // next_halfedge, tri_of: the Rust's sum that wraps is answer 4
 
@@ -167,14 +175,6 @@ fn short_ours(_: &mut Lent, a: &Asked) -> Result<Said, String> {
         8 => Said::with(8, &[told.squared_length, told.limit]),
         n => Said::refused(n),
     })
-}
-
-fn bits_of(x: f64) -> u64 {
-    if x.is_nan() {
-        0x7FF8_0000_0000_0000
-    } else {
-        x.to_bits()
-    }
 }
 
 fn short_owed(_: &mut Lent, a: &Asked) -> Said {
@@ -367,13 +367,19 @@ fn lent_about<T>(needed: usize, chance: &mut Chance, of: impl Fn(u64) -> T) -> V
     (0..length).map(|_| of(chance.bits() | 1)).collect()
 }
 
+/// How many half-edges there is room for, those in use among them.
+fn halfedge_capacity(l: &Lent) -> usize {
+    3 * reading::triangle_capacity(l)
+}
+
 /// Every buffer that an entry takes, long enough.
 pub fn lend_enough(l: &mut Lent, chance: &mut Chance) {
     let (rows, vertices) = (l.used.halfedges, l.used.vertices);
+    let capacity = rows.max(halfedge_capacity(l));
     let mut anything = |needed: usize| -> Vec<u64> { (0..needed + chance.below(2)).map(|_| chance.bits() | 1).collect() };
     l.work_bytes = anything(rows).iter().map(|&b| b as u8).collect();
-    l.work_words = anything(rows + vertices).iter().map(|&b| b as u32).collect();
-    l.list = anything(rows).iter().map(|&b| b as u32).collect();
+    l.work_words = anything(capacity + vertices).iter().map(|&b| b as u32).collect();
+    l.list = anything(capacity).iter().map(|&b| b as u32).collect();
     l.spare_halfedges = anything(4 * rows).iter().map(|&b| b as i32).collect();
     l.spare_positions = anything(3 * vertices);
 }
@@ -427,15 +433,23 @@ fn split_owed(l: &mut Lent, _: &Asked) -> Said {
 
 /// What the original leaves past the answers 1 to 5, and the second reading besides: where the two are not the same, 99, which shows as a difference.
 fn agreed(l: &mut Lent, read: impl FnOnce(&mut Lent) -> Said, original: impl FnOnce(&mut ManifoldImpl)) -> Said {
+    let moves = 100 + 10 * l.used.halfedges.min(10_000_000) as u64;
+    agreed_within(l, moves, read, original)
+}
+
+/// The same, where the original's walks together may make so many moves before they count as endless.
+fn agreed_within(l: &mut Lent, moves: u64, read: impl FnOnce(&mut Lent) -> Said, original: impl FnOnce(&mut ManifoldImpl)) -> Said {
     let mut left = l.clone();
     let said = read(&mut left);
     let agree = match said.number {
-        0 => matches!(reading::run(l, original), Ran::Done(())) && {
+        0 => matches!(reading::run_within(l, moves, original), Ran::Done(())) && {
+            // the Rust has no such buffers
             (l.spare_halfedges, l.spare_positions) = (left.spare_halfedges.clone(), left.spare_positions.clone());
+            (l.work_words, l.list) = (left.work_words.clone(), left.list.clone());
             l.differs(&left).is_none()
         },
-        6 => matches!(reading::run(l, original), Ran::NoRoom),
-        7 => matches!(reading::run(l, original), Ran::Stopped),
+        6 => matches!(reading::run_within(l, moves, original), Ran::NoRoom),
+        7 => matches!(reading::run_within(l, moves, original), Ran::Stopped),
         _ => true,
     };
     *l = left;
@@ -635,4 +649,32 @@ fn loop_ours(l: &mut Lent, a: &Asked) -> Result<Said, String> {
 fn loop_owed(l: &mut Lent, a: &Asked) -> Said {
     let (first, second) = (a.numbers[0], a.numbers[1]);
     agreed(l, |l| reading::form_loop(l, first, second), |mesh| original::edge_op::form_loop(mesh, first as usize, second as usize))
+}
+
+// dedupe_edge: on a sound net the Rust is always done, so its moves need no limit
+
+/// What a call that appends triangles and vertices tells, with the counts that it leaves.
+fn grown(l: &mut Lent, number: u32, row: usize, halfedges: usize, vertices: usize) -> Said {
+    if number == 0 {
+        (l.used.halfedges, l.used.vertices) = (halfedges, vertices);
+        for faces in [&mut l.used.normals, &mut l.used.references].into_iter().filter(|n| **n != 0) {
+            *faces = halfedges / 3;
+        }
+    }
+    Said::with(number, &[row as u64, halfedges as u64, vertices as u64])
+}
+
+fn dedupe_ours(l: &mut Lent, a: &Asked) -> Result<Said, String> {
+    let mut g = GuardedNet::of(l);
+    let (mut saved, mut held) = (Guarded::new(&l.spare_halfedges), Guarded::new(&l.spare_positions));
+    let told = call!(spoonferret_dedupe_edge, g, saved.at(), saved.length(), held.at(), held.length(), a.numbers[0]);
+    g.back(l)?;
+    saved.back("spare half-edges", &mut l.spare_halfedges)?;
+    held.back("spare positions", &mut l.spare_positions)?;
+    Ok(grown(l, told.number, told.row, told.halfedges, told.vertices))
+}
+
+fn dedupe_owed(l: &mut Lent, a: &Asked) -> Said {
+    let h = a.numbers[0];
+    agreed_within(l, u64::MAX, |l| reading::dedupe_edge(l, h), |mesh| original::edge_op::dedupe_edge(mesh, h as usize))
 }

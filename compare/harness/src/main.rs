@@ -208,6 +208,22 @@ fn compare(times: usize, only: Option<usize>, chance: &mut Chance) {
         }
     }
 
+    table.stage("every room from none to enough, for what appends triangles and vertices");
+    for (i, net) in small.iter().enumerate().filter(|(i, _)| times > 1 || i % 8 == 0) {
+        let mut net = net.clone();
+        if i % 2 == 0 {
+            nets::dress(&mut net, chance);
+        }
+        rooms(table, &nets::bare(&net), ALL.len(), chance);
+    }
+    for _ in 0..(times * 150).max(1) {
+        let net = match chance.below(3) {
+            0 => nets::with_loops(chance),
+            _ => nets::random_sound(chance),
+        };
+        rooms(table, &nets::bare(&net), 3, chance);
+    }
+
     table.stage("damaged nets");
     for net in small.iter().step_by(if times > 1 { 1 } else { 40 }).chain(random.iter().take(times * 20)) {
         nets::damaged(net, chance, &mut |net, chance| table.on_with(net, few, chance));
@@ -246,11 +262,46 @@ fn compare(times: usize, only: Option<usize>, chance: &mut Chance) {
         }
     }
 
+    table.stage("large nets with much to do");
+    for &triangles in sizes.iter().filter(|&&t| t <= 100_000) {
+        let pieces = nets::together(&small, triangles / 4, chance);
+        // every edge across is there twice
+        let narrow = nets::built(nets::torus(2, triangles / 4), false, chance);
+        let wheel = nets::built(nets::bipyramid((triangles / 2).min(5_000)), false, chance);
+        for mut net in [pieces, narrow, wheel] {
+            nets::dress(&mut net, chance);
+            nets::add_room(&mut net, 3 * triangles, 3 * triangles, chance);
+            for name in ["dedupe_edge"] {
+                table.one(entry_named(name), &net, 2, chance);
+            }
+        }
+    }
+
     if times > 0 {
         table.stage("the bounds themselves");
         bounds(table, times > 1, chance);
     }
     report(table);
+}
+
+/// The entries that append, on one net with every room from none to what cleanup wants of it; of each at most so much is asked.
+fn rooms(table: &mut Table, net: &Lent, most: usize, chance: &mut Chance) {
+    let mut mesh = reading::mesh_of(net);
+    original::edge_op::cleanup_topology(&mut mesh);
+    let triangles = ((mesh.halfedge.len() - net.used.halfedges) / 3).clamp(2, 12);
+    let vertices = (mesh.vert_pos.len() - net.used.vertices).clamp(2, 12);
+    nets::every_room(net, triangles, vertices, chance, &mut |net, chance| {
+        for name in ["dedupe_edge"] {
+            let which = entry_named(name);
+            let mut asks = (ALL[which].all)(net, chance);
+            chance.shuffle(&mut asks);
+            let mut lent = net.clone();
+            for asked in asks.iter().take(most) {
+                entries::lend_enough(&mut lent, chance);
+                table.run(which, &lent, asked);
+            }
+        }
+    });
 }
 
 /// Document 01's example, one vertex pinched, with so many vertices in use and room for more.

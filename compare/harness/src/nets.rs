@@ -181,7 +181,7 @@ pub fn random_sound(chance: &mut Chance) -> Lent {
 }
 
 /// Dead triangles put between the live ones.
-fn with_dead(l: &Lent, chance: &mut Chance) -> Lent {
+pub fn with_dead(l: &Lent, chance: &mut Chance) -> Lent {
     let mut place = vec![]; // of each old triangle, or none: dead
     let count = l.used.halfedges / 3;
     let mut to = vec![0; count];
@@ -246,6 +246,62 @@ pub fn add_room(l: &mut Lent, triangles: usize, vertices: usize, chance: &mut Ch
         l.normals.extend(anything(3 * triangles + 2));
     }
     l.properties.extend(anything(3));
+}
+
+/// Many small nets side by side, with everything that they have of pinches and duplicate edges.
+pub fn together(nets: &[Lent], count: usize, chance: &mut Chance) -> Lent {
+    let mut l = Lent::default();
+    for _ in 0..count {
+        let net = chance.pick(nets);
+        let (rows, vertices) = (l.used.halfedges as i32, l.used.vertices as i32);
+        for r in net.halfedges.chunks_exact(4).take(net.used.halfedges) {
+            l.halfedges.extend([r[0] + vertices, r[1] + vertices, r[2] + rows, r[3]]);
+        }
+        l.positions.extend(&net.positions[..3 * net.used.vertices]);
+        l.used.halfedges += net.used.halfedges;
+        l.used.vertices += net.used.vertices;
+    }
+    l
+}
+
+/// Nets on which a collapse forms loops: a bipyramid, or two with some of their rims' vertices in common.
+pub fn with_loops(chance: &mut Chance) -> Lent {
+    let mut triangles = bipyramid(3 + chance.below(5));
+    let vertices = triangles.iter().flatten().max().map_or(0, |m| m + 1);
+    if chance.once_in(2) {
+        let other = bipyramid(3 + chance.below(5));
+        let shared = 1 + chance.below(3);
+        triangles.extend(other.iter().map(|t| t.map(|v| if v < shared { v } else { v + vertices })));
+    }
+    let mut pairs = paired_by_ends(&triangles, Some(chance));
+    shuffled(&mut triangles, &mut pairs, chance);
+    // names with no gap
+    let mut names = HashMap::new();
+    let starts: Vec<usize> = triangles.iter().flatten().map(|&v| { let next = names.len(); *names.entry(v).or_insert(next) }).collect();
+    let mut l = net_of(&starts, &pairs, names.len());
+    dress(&mut l, chance);
+    l
+}
+
+/// Every room from none to so much, of triangles with vertices enough, of vertices with triangles enough, and of both by chance. The net has no free row.
+pub fn every_room(l: &Lent, triangles: usize, vertices: usize, chance: &mut Chance, each: &mut impl FnMut(&Lent, &mut Chance)) {
+    let mut rooms: Vec<(usize, usize)> = (0..=triangles).map(|t| (t, vertices)).chain((0..=vertices).map(|v| (triangles, v))).collect();
+    rooms.extend((0..4).map(|_| (chance.below(triangles + 1), chance.below(vertices + 1))));
+    for (t, v) in rooms {
+        let mut net = l.clone();
+        add_room(&mut net, t, v, chance);
+        each(&net, chance);
+    }
+}
+
+/// The rows in use alone.
+pub fn bare(l: &Lent) -> Lent {
+    let mut l = l.clone();
+    l.halfedges.truncate(4 * l.used.halfedges);
+    l.positions.truncate(3 * l.used.vertices);
+    l.normals.truncate(3 * l.used.normals);
+    l.references.truncate(3 * l.used.references);
+    l
 }
 
 /// A large torus of about so many triangles, in order or shuffled.

@@ -171,9 +171,15 @@ pub fn caught<T>(f: impl FnOnce() -> T) -> Option<T> {
 
 /// Runs the original on the rows in use. Where it is done, what it leaves is written back; else nothing is.
 pub fn run<T>(l: &mut Lent, f: impl FnOnce(&mut ManifoldImpl) -> T) -> Ran<T> {
-    let mut mesh = mesh_of(l);
     // more moves than these make where every walk ends: one passes a half-edge at most once
-    original::moves::allow(100 + 10 * l.used.halfedges as u64);
+    let moves = 100 + 10 * l.used.halfedges as u64;
+    run_within(l, moves, f)
+}
+
+/// The same, with so many moves after which a walk counts as endless.
+pub fn run_within<T>(l: &mut Lent, moves: u64, f: impl FnOnce(&mut ManifoldImpl) -> T) -> Ran<T> {
+    let mut mesh = mesh_of(l);
+    original::moves::allow(moves);
     let ended = caught(|| f(&mut mesh));
     original::moves::allow(u64::MAX);
     if mesh.halfedge.len() > 3 * triangle_capacity(l) || mesh.vert_pos.len() > vertex_capacity(l) {
@@ -287,7 +293,14 @@ fn owners(l: &Lent, end_too: bool) -> Option<Vec<usize>> {
     Some(owners)
 }
 
-/// The rows from start to end, end not among them: "go to that next row's pair". None where it "has made H moves and has not finished".
+/// The partner of h, where there is one among the rows in use.
+fn partner(l: &Lent, h: usize) -> Option<usize> {
+    let p = row(l, h).pair;
+    (p >= 0 && (p as usize) < l.used.halfedges).then_some(p as usize)
+}
+
+/// The rows from start to end, end not among them: "go to that next row's pair". None where it "has made H moves and has not finished", or
+/// where there is no such row.
 fn way(l: &Lent, start: usize, end: usize) -> Option<Vec<usize>> {
     let mut way = vec![];
     let mut current = start;
@@ -296,7 +309,7 @@ fn way(l: &Lent, start: usize, end: usize) -> Option<Vec<usize>> {
             return None;
         }
         way.push(current);
-        current = row(l, next(current)).pair as usize;
+        current = partner(l, next(current))?;
     }
     Some(way)
 }
@@ -332,13 +345,17 @@ pub fn collapse_tri(l: &mut Lent, halfedge: i32) -> Said {
     if let Some((number, row)) = refused_before(l, true, &[halfedge], &[]) {
         return Said::with(number, &[row]);
     }
-    let three = tri_of(halfedge as usize);
+    emptied(l, halfedge as usize);
+    Said::with(0, &[0])
+}
+
+fn emptied(l: &mut Lent, halfedge: usize) {
+    let three = tri_of(halfedge);
     let partners = three.map(|h| row(l, h).pair as usize);
     paired(l, partners[1], partners[2]);
     for h in three {
         l.halfedges[4 * h..4 * h + 3].fill(-1);
     }
-    Said::with(0, &[0])
 }
 
 /// Module 7: the two triangles at e, taken out where they have folded.
@@ -376,16 +393,88 @@ pub fn remove_if_folded(l: &mut Lent, halfedge: i32) -> Said {
     Said::with(0, &[0])
 }
 
-/// Answers 1 to 5 of form_loop; past them "the spare holds the rows as at entry".
+/// "A spare of the size of the half-edge and position rows in use" is there.
+fn spare_fits(l: &Lent) -> bool {
+    l.spare_halfedges.len() / 4 >= l.used.halfedges && l.spare_positions.len() / 3 >= l.used.vertices
+}
+
+/// "Past the checks it holds the rows as at entry."
+fn spare_taken(l: &mut Lent) {
+    let (rows, positions) = (4 * l.used.halfedges, 3 * l.used.vertices);
+    l.spare_halfedges[..rows].copy_from_slice(&l.halfedges[..rows]);
+    l.spare_positions[..positions].copy_from_slice(&l.positions[..positions]);
+}
+
+/// Answers 1 to 5 of form_loop and dedupe_edge; past them the spare is taken.
 fn refused_with_spare(l: &mut Lent, halfedges: &[i32]) -> Option<(u32, u64)> {
-    let (rows, vertices) = (l.used.halfedges, l.used.vertices);
-    let fits = l.spare_halfedges.len() / 4 >= rows && l.spare_positions.len() / 3 >= vertices;
-    let refused = refused_before(l, fits, halfedges, &[]);
+    let refused = refused_before(l, spare_fits(l), halfedges, &[]);
     if refused.is_none() {
-        l.spare_halfedges[..4 * rows].copy_from_slice(&l.halfedges[..4 * rows]);
-        l.spare_positions[..3 * vertices].copy_from_slice(&l.positions[..3 * vertices]);
+        spare_taken(l);
     }
     refused
+}
+
+/// Why the steps of an operation end before their time.
+enum Halt {
+    /// "the next append of the steps would pass a capacity"
+    NoRoom,
+    /// "the next step would read or write a row that isn't there, or a walk never ends"
+    Stopped,
+}
+
+/// The steps, from the rows as they are; where they halt, the rows in use are put back, "free rows that the steps had filled read zero", and the counts are as at
+/// entry. What is said: 0, 6 or 7.
+fn settled(l: &mut Lent, steps: impl FnOnce(&mut Lent) -> Result<(), Halt>) -> u32 {
+    let (was, before) = (l.used, l.clone());
+    let Err(halt) = steps(l) else {
+        return 0;
+    };
+    fn back<T: Copy + Default>(lent: &mut [T], before: &[T], width: usize, was: usize, now: usize) {
+        lent[..width * was].copy_from_slice(&before[..width * was]);
+        lent[width * was..width * now].fill(T::default());
+    }
+    let triangles = l.used.halfedges / 3;
+    back(&mut l.halfedges, &before.halfedges, 4, was.halfedges, l.used.halfedges);
+    back(&mut l.positions, &before.positions, 3, was.vertices, l.used.vertices);
+    if was.normals != 0 {
+        back(&mut l.normals, &before.normals, 3, was.normals, triangles);
+    }
+    if was.references != 0 {
+        back(&mut l.references, &before.references, 3, was.references, triangles);
+    }
+    l.used = was;
+    match halt {
+        Halt::NoRoom => 6,
+        Halt::Stopped => 7,
+    }
+}
+
+/// A vertex more, where v is.
+fn appended_vertex(l: &mut Lent, v: i32) -> Result<i32, Halt> {
+    let new = l.used.vertices;
+    if new == vertex_capacity(l) {
+        return Err(Halt::NoRoom);
+    }
+    let v = v as usize;
+    l.positions.copy_within(3 * v..3 * v + 3, 3 * new);
+    l.used.vertices += 1;
+    Ok(new as i32)
+}
+
+/// Module 8: "Appends positions of start and end of the first edge, updates both sides, exchanges the two pairs, then remove_if_folded on the second."
+fn looped(l: &mut Lent, a: usize, b: usize) -> Result<(), Halt> {
+    let (start, end) = (row(l, a).start, row(l, a).end);
+    let (start, end) = (appended_vertex(l, start)?, appended_vertex(l, end)?);
+    let (Some(p), Some(q)) = (partner(l, a), partner(l, b)) else {
+        return Err(Halt::Stopped);
+    };
+    if !(updated(l, start, p, q) && updated(l, end, b, a)) {
+        return Err(Halt::Stopped);
+    }
+    paired(l, a, q);
+    paired(l, b, p);
+    unfolded(l, b);
+    Ok(())
 }
 
 /// Module 8, the entry: it says the vertices in use where it is done.
@@ -393,28 +482,125 @@ pub fn form_loop(l: &mut Lent, first: i32, second: i32) -> Said {
     if let Some((number, row)) = refused_with_spare(l, &[first, second]) {
         return Said::with(number, &[row, 0]);
     }
-    let (rows, vertices) = (l.used.halfedges, l.used.vertices);
-    let (a, b) = (first as usize, second as usize);
-    let copied = [row(l, a).start, row(l, a).end].map(|v| v as usize);
-    // what is free takes the copies; a refusal reads zero there
-    let free = (vertex_capacity(l) - vertices).min(2);
-    let filled = 3 * vertices..3 * (vertices + free);
-    if free < 2 {
-        l.positions[filled].fill(0);
-        return Said::with(6, &[0, 0]);
+    match settled(l, |l| looped(l, first as usize, second as usize)) {
+        0 => Said::with(0, &[0, l.used.vertices as u64]),
+        number => Said::with(number, &[0, 0]),
     }
-    for (k, v) in copied.into_iter().enumerate() {
-        l.positions.copy_within(3 * v..3 * v + 3, 3 * (vertices + k));
+}
+
+/// The half-edges of h's fan, h first, by turning; a fan of a net in order closes.
+fn fan(l: &Lent, h: usize) -> Result<Vec<usize>, Halt> {
+    let mut fan = vec![h];
+    let mut c = h;
+    loop {
+        c = next(partner(l, c).ok_or(Halt::Stopped)?);
+        if c == h {
+            return Ok(fan);
+        }
+        if fan.len() > l.used.halfedges {
+            return Err(Halt::Stopped);
+        }
+        fan.push(c);
     }
-    let (p, q) = (row(l, a).pair as usize, row(l, b).pair as usize);
-    if !(updated(l, vertices as i32, p, q) && updated(l, vertices as i32 + 1, b, a)) {
-        l.halfedges[..4 * rows].copy_from_slice(&l.spare_halfedges[..4 * rows]);
-        l.positions[filled].fill(0);
-        return Said::with(7, &[0, 0]);
+}
+
+/// "An appended copy of the position, set on every start in the fan and on the end of every partner."
+fn fan_copied(l: &mut Lent, v: i32, h: usize) -> Result<(), Halt> {
+    let new = appended_vertex(l, v)?;
+    for c in fan(l, h)? {
+        let p = partner(l, c).ok_or(Halt::Stopped)?;
+        l.halfedges[4 * c] = new;
+        l.halfedges[4 * p + 1] = new;
     }
-    paired(l, a, q);
-    paired(l, b, p);
-    unfolded(l, b);
-    l.used.vertices = vertices + 2;
-    Said::with(0, &[0, l.used.vertices as u64])
+    Ok(())
+}
+
+/// A triangle more, beside h: from a to b to where h starts, with the props of e, e and h, its second row paired with h and its third with the partner that h
+/// had; the reference and the normal of h's triangle.
+fn triangle_beside(l: &mut Lent, capacity: usize, a: i32, b: i32, h: usize, e: usize) -> Result<usize, Halt> {
+    let k = l.used.halfedges;
+    if k + 3 > capacity {
+        return Err(Halt::NoRoom);
+    }
+    let (outside, prop_e, prop_h) = (row(l, h).start, l.halfedges[4 * e + 3], l.halfedges[4 * h + 3]);
+    let p = partner(l, h).ok_or(Halt::Stopped)?;
+    let rows = [[a, b, -1, prop_e], [b, outside, -1, prop_e], [outside, a, -1, prop_h]];
+    l.halfedges[4 * k..4 * k + 12].copy_from_slice(rows.as_flattened());
+    l.used.halfedges += 3;
+    paired(l, k + 2, p);
+    paired(l, k + 1, h);
+    let (from, to) = (h / 3, k / 3);
+    if l.used.references != 0 {
+        l.references.copy_within(3 * from..3 * from + 3, 3 * to);
+        l.used.references += 1;
+    }
+    if l.used.normals != 0 {
+        l.normals.copy_within(3 * from..3 * from + 3, 3 * to);
+        l.used.normals += 1;
+    }
+    Ok(k)
+}
+
+/// Module 11: from where it stands by `next, pair` until it is home or at a row that starts at v; where it stands then.
+fn sought(l: &Lent, v: i32, home: usize) -> Result<usize, Halt> {
+    let mut current = home;
+    for _ in 0..=l.used.halfedges {
+        current = partner(l, next(current)).ok_or(Halt::Stopped)?;
+        if current == home || row(l, current).start == v {
+            return Ok(current);
+        }
+    }
+    Err(Halt::Stopped)
+}
+
+/// Module 11, dedupe_edge: "its search stops the moment it meets a matching start vertex or comes back round; where it then holds the edge, even after
+/// inserting, the end vertex is copied". Then the search about the start, which the Rust makes besides.
+fn deduped(l: &mut Lent, capacity: usize, e: usize) -> Result<(), Halt> {
+    let (start, end) = (row(l, e).start, row(l, e).end);
+    let mut current = sought(l, start, e)?;
+    if current != e {
+        let new = appended_vertex(l, end)?;
+        current = partner(l, next(current)).ok_or(Halt::Stopped)?;
+        let opposite = partner(l, next(e)).ok_or(Halt::Stopped)?;
+        if !updated(l, new, current, opposite) {
+            return Err(Halt::Stopped);
+        }
+        let first = triangle_beside(l, capacity, end, new, current, next(e))?;
+        let second = triangle_beside(l, capacity, new, end, opposite, next(e))?;
+        paired(l, second, first);
+    }
+    if current == e {
+        fan_copied(l, end, next(e))?;
+    }
+    let pair = partner(l, e).ok_or(Halt::Stopped)?;
+    if sought(l, end, pair)? == pair {
+        fan_copied(l, end, next(pair))?;
+    }
+    Ok(())
+}
+
+/// Module 11, the entry: it says the half-edges and the vertices in use where it is done.
+pub fn dedupe_edge(l: &mut Lent, halfedge: i32) -> Said {
+    if let Some((number, row)) = refused_with_spare(l, &[halfedge]) {
+        return Said::with(number, &[row, 0, 0]);
+    }
+    let capacity = 3 * triangle_capacity(l);
+    let number = settled(l, |l| deduped(l, capacity, halfedge as usize));
+    grown(l, number)
+}
+
+fn grown(l: &Lent, number: u32) -> Said {
+    match number {
+        0 => Said::with(0, &[0, l.used.halfedges as u64, l.used.vertices as u64]),
+        _ => Said::with(number, &[0, 0, 0]),
+    }
+}
+
+/// A float as 64 bits; a NaN is always the same.
+pub fn bits_of(x: f64) -> u64 {
+    if x.is_nan() {
+        0x7FF8_0000_0000_0000
+    } else {
+        x.to_bits()
+    }
 }

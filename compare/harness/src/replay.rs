@@ -45,13 +45,42 @@ fn buffers(which: usize, net: &Lent) -> Vec<(&'static str, Vec<i128>)> {
     match ALL[which].name {
         "split_pinched_verts" => vec![("work", all(&net.work_words)), ("visit", all(&net.list))],
         "orbit_owners" => vec![("work", all(&net.work_bytes)), ("list", all(&net.list))],
-        "form_loop" => vec![("spare_halfedges", all(&net.spare_halfedges)), ("spare_positions", all(&net.spare_positions))],
+        "form_loop" | "dedupe_edge" => vec![("spare_halfedges", all(&net.spare_halfedges)), ("spare_positions", all(&net.spare_positions))],
         _ => vec![],
     }
 }
 
-/// What the entry must say and leave, as the program `replay` prints it; with its number, and whether anything was written.
-fn printed(which: usize, net: &Lent, asked: &Asked) -> ((u32, bool), String) {
+/// What is told apart among the calls of an entry: the number of the answer, whether anything was written, and of what appends whether the net is empty, how
+/// many vertices and half-edges were appended, or had been when it was refused and read zero now, and whether there was room for another vertex then.
+type Kind = (u32, bool, bool, usize, usize, bool);
+
+fn kind(which: usize, net: &Lent, left: &Lent, number: u32) -> Kind {
+    let written = left.differs(net).is_some();
+    if !appends(which) {
+        return (number, written, false, 0, 0, false);
+    }
+    let empty = net.used.halfedges == 0;
+    // of a refusal the rows that were not zero and are now
+    fn emptied<T: PartialEq + Default>(before: &[T], after: &[T], width: usize) -> usize {
+        let zero = |row: &[T]| row.iter().all(|x| *x == T::default());
+        before.chunks_exact(width).zip(after.chunks_exact(width)).filter(|(b, a)| !zero(b) && zero(a)).count()
+    }
+    let (vertices, rows) = match number {
+        0 => (left.used.vertices - net.used.vertices, left.used.halfedges - net.used.halfedges),
+        6 | 7 => (emptied(&net.positions, &left.positions, 3), emptied(&net.halfedges, &left.halfedges, 4)),
+        _ => (0, 0),
+    };
+    let room = number == 6 && net.used.vertices + vertices < reading::vertex_capacity(net);
+    (number, written, empty, vertices.min(4), rows.min(12), room)
+}
+
+/// The entries that append triangles or vertices as their steps go; form_loop, which always appends two, is not told apart by them.
+fn appends(which: usize) -> bool {
+    which > ALL.iter().position(|e| e.name == "form_loop").expect("an entry")
+}
+
+/// What the entry must say and leave, as the program `replay` prints it; with its kind.
+fn printed(which: usize, net: &Lent, asked: &Asked) -> (Kind, String) {
     let entry = &ALL[which];
     let mut left = net.clone();
     let said = (entry.owed)(&mut left, asked);
@@ -74,7 +103,7 @@ fn printed(which: usize, net: &Lent, asked: &Asked) -> ((u32, bool), String) {
         row("references", &left.references, &mut out);
         row("properties", &left.properties, &mut out);
     }
-    ((said.number, left.differs(net).is_some()), out)
+    (kind(which, net, &left, said.number), out)
 }
 
 fn row<T: std::fmt::Display>(name: &str, values: &[T], out: &mut String) {
@@ -116,6 +145,35 @@ fn any_net(chance: &mut Chance) -> Lent {
             break net;
         }
     };
+    varied(net, chance)
+}
+
+/// The same for what appends: most of the nets have references, normals and properties, some have loops to form, and some are empty.
+fn any_growing(small: &[Lent], chance: &mut Chance) -> Lent {
+    let faces = !chance.once_in(4);
+    let net = loop {
+        let mut net = match chance.below(8) {
+            0 | 1 => nets::with_loops(chance),
+            2 => nets::random_sound(chance),
+            3 => Lent::default(),
+            4 => nets::with_dead(chance.pick(small), chance),
+            _ => chance.pick(small).clone(),
+        };
+        if net.used.num_prop == 0 {
+            nets::dress(&mut net, chance);
+        }
+        let whole = net.used.num_prop > 0 && (net.used.halfedges == 0 || net.used.references > 0 && net.used.normals > 0);
+        if net.used.halfedges <= MOST_HALFEDGES && (whole || !faces) {
+            break nets::bare(&net);
+        }
+    };
+    let mut net = if net.used.halfedges > 0 && chance.once_in(3) { varied(net, chance) } else { net };
+    let (triangles, vertices) = (chance.below(5), chance.below(5));
+    nets::add_room(&mut net, triangles, vertices, chance);
+    net
+}
+
+fn varied(net: Lent, chance: &mut Chance) -> Lent {
     let mut all = vec![];
     match chance.below(6) {
         0 => nets::damaged(&net, chance, &mut |l, _| all.push(l.clone())),
@@ -131,6 +189,8 @@ fn any_net(chance: &mut Chance) -> Lent {
 const MOST_HALFEDGES: usize = 24;
 const CALLS: usize = 100;
 const MOST_BYTES: usize = 65_000;
+/// How large a call of what appends may be, so that there are 60 and more.
+const MOST_OF_ONE: usize = 1_250;
 
 /// What stands at the head of a file: no digit and no minus sign, which would be read.
 fn head(name: &str) -> String {
@@ -140,20 +200,30 @@ fn head(name: &str) -> String {
     if name == "split_pinched_verts" {
         out += "Open fan is not among the answers: it cannot be given once the net is sound.\n";
     }
+    if ["dedupe_edge"].contains(&name) {
+        out += "Stopped is not among the answers: it cannot be given once the net is sound.\n";
+    }
     out
 }
 
-/// Writes data/ENTRY, args and stdout of the program's folder: for each entry 100 calls or as many as its file holds, the answers that it gives in
-/// turn, done with something written and done with nothing written apart, so that each is there as often as it comes.
+/// Writes data/ENTRY, args and stdout of the program's folder: for each entry 100 calls or as many as its file holds, the kinds of its answers in
+/// turn, so that each is there as often as it comes.
 pub fn write(folder: &Path, chance: &mut Chance) {
     let mut stdout = String::new();
     let mut args = String::new();
     let mut total = 0;
+    let mut small = vec![];
+    nets::all_sound(2, &mut |net| small.push(net));
+    nets::all_sound(4, &mut |net| small.push(net));
     for (which, entry) in ALL.iter().enumerate() {
         // calls by what is owed
-        let mut by_answer: BTreeMap<(u32, bool), Vec<(String, String)>> = BTreeMap::new();
+        let mut by_answer: BTreeMap<Kind, Vec<(String, String)>> = BTreeMap::new();
         for _ in 0..if entry.on_nets { 600 } else { 4 } {
-            let net = if entry.on_nets { any_net(chance) } else { Lent::default() };
+            let net = match entry.on_nets {
+                true if appends(which) => any_growing(&small, chance),
+                true => any_net(chance),
+                false => Lent::default(),
+            };
             let mut asks = (entry.asks)(&net, chance);
             if entry.on_nets && !reading::misshapen(&net) && net.used.vertices > 0 {
                 asks.extend((entry.all)(&net, chance));
@@ -163,8 +233,11 @@ pub fn write(folder: &Path, chance: &mut Chance) {
                 (entry.lends)(&mut lent, chance);
                 shorten(&mut lent, chance);
                 let (answer, text) = printed(which, &lent, &asked);
-                let share = by_answer.entry(answer).or_default();
                 let stored = (call(which, &lent, &asked), text);
+                if appends(which) && stored.0.len() > MOST_OF_ONE {
+                    continue;
+                }
+                let share = by_answer.entry(answer).or_default();
                 // a sample of each, of no more than so many
                 if share.len() < 2 * CALLS {
                     share.push(stored);
@@ -181,7 +254,7 @@ pub fn write(folder: &Path, chance: &mut Chance) {
             chance.shuffle(share);
         }
         'full: while calls < CALLS && shares.iter().any(|(_, s)| !s.is_empty()) {
-            for ((number, _), share) in shares.iter_mut() {
+            for ((number, ..), share) in shares.iter_mut() {
                 let Some((input, output)) = share.pop() else { continue };
                 if file.len() + input.len() > MOST_BYTES {
                     break 'full;
@@ -192,7 +265,7 @@ pub fn write(folder: &Path, chance: &mut Chance) {
                 *given.entry(*number).or_default() += 1;
             }
         }
-        eprintln!("{}: {calls} calls, answers {given:?}, {} bytes", entry.name, file.len());
+        eprintln!("{}: {calls} calls of {} kinds, answers {given:?}, {} bytes", entry.name, by_answer.len(), file.len());
         std::fs::write(folder.join("data").join(entry.name), file).expect("the file of calls is written");
         args += entry.name;
         args.push('\n');

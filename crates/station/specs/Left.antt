@@ -7,9 +7,12 @@ use Rattle.told.specs.declared.SplitAnswer.{SplitAnswer}
 use Rattle.told.specs.declared.OwnersAnswer.{OwnersAnswer}
 use Rattle.told.specs.declared.LoopAnswer.{LoopAnswer}
 use Rattle.told.specs.Told.{split-told, owners-told, loop-told}
+use Rattle.repairtold.specs.declared.DedupeEdgeAnswer.{DedupeEdgeAnswer}
+use Rattle.repairtold.specs.Told.{edge-told}
 use Rattle.owners.specs.Scan as owners
 use Rattle.loops.specs.FormLoop.{Left}
 use Rattle.splitting.specs.Split.{Outcome}
+use Rattle.dedupe.specs.DedupeEdge as edge
 
 -- of an entry whose model is what is said and what is left
 abbrev pub and-left : {A B : Type 0} → (Said → B) → Said × A → B × A
@@ -23,3 +26,6 @@ owners-left o = (owners-told (o .said), o .work, o .list)
 
 abbrev pub loop-left : Left → LoopAnswer × List ℤ × List ℕ × List ℤ × List ℕ
 loop-left o = (loop-told (o .said), o .halfedges, o .positions, o .saved, o .held)
+
+abbrev pub edge-left : edge.Left → DedupeEdgeAnswer × List ℤ × List ℕ × List ℕ × List ℤ × List ℤ × List ℕ
+edge-left o = (edge-told (o .said), o .halfedges, o .positions, o .normals, o .references, o .saved, o .held)

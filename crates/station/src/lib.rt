@@ -12,8 +12,10 @@ ghost use Rattle.walks.specs.UpdateVert.{updateVert};
 ghost use Rattle.triangles.specs.CollapseTri.{collapseTri};
 ghost use Rattle.folds.specs.RemoveIfFolded.{removeIfFolded};
 ghost use Rattle.loops.specs.FormLoop.{formLoop};
+ghost use Rattle.dedupe.specs.DedupeEdge.{dedupeEdge};
 ghost use Rattle.told.specs.Told.{told, next-told, tri-told, length-told, row-told, counts-of, vector-of, eligible-of};
-ghost use Rattle.station.specs.Left.{and-left, split-left, owners-left, loop-left};
+ghost use Rattle.station.specs.Left.{and-left, split-left, owners-left, loop-left, edge-left};
+use repairtold::DedupeEdgeAnswer;
 use told::Answer;
 use told::LengthAnswer;
 use told::LoopAnswer;
@@ -260,5 +262,33 @@ pub extern "C" fn spoonferret_split_pinched_verts(
         properties,
         work,
         visit,
+    ))
+}
+
+#[no_mangle]
+pub extern "C" fn spoonferret_dedupe_edge(
+    used: Used,
+    halfedges: &mut [i32],
+    positions: &mut [u64],
+    normals: &mut [u64],
+    references: &mut [i32],
+    properties: &[u64],
+    spare_halfedges: &mut [i32],
+    spare_positions: &mut [u64],
+    halfedge: i32,
+) -> DedupeEdgeAnswer
+    ensures { λ r. ⌜ (r, now (halfedges .exit), now (positions .exit), now (normals .exit), now (references .exit), now («spare_halfedges» .exit), now («spare_positions» .exit))
+        ≡ edge-left (dedupeEdge (counts-of used) (net (now (halfedges .entry)) (now (positions .entry)) (now (normals .entry)) (now (references .entry)) (now (properties .entry))) (now («spare_halfedges» .entry)) (now («spare_positions» .entry)) halfedge) ⌝ }
+{
+    repairtold::of_edge(dedupe::entry::dedupe_edge(
+        told::counts_of(used),
+        halfedges,
+        positions,
+        normals,
+        references,
+        properties,
+        spare_halfedges,
+        spare_positions,
+        halfedge,
     ))
 }

@@ -15,6 +15,28 @@ pub struct Net {
     pub num_prop: usize,
 }
 
+const MOST_TRIANGLES: usize = 1_000_000;
+const MOST_VERTICES: usize = 1_000_000;
+
+/// The rows in use after a call that was done.
+#[derive(Clone, Copy, Debug, PartialEq)]
+struct InUse {
+    halfedges: usize,
+    vertices: usize,
+}
+
+/// The spares that an operation borrows, of the size of the half-edge and position rows in use.
+struct Spare {
+    halfedges: Vec<i32>,
+    positions: Vec<u64>,
+}
+
+impl Spare {
+    fn of(used: Used) -> Self {
+        Spare { halfedges: vec![0; used.halfedges * 4], positions: vec![0; used.vertices * 3] }
+    }
+}
+
 /// Which half-edges the owner scan looks at.
 #[derive(Clone, Copy, Debug, PartialEq, Eq)]
 pub enum Eligible {
@@ -24,9 +46,12 @@ pub enum Eligible {
     StartAndEnd,
 }
 
-/// A call of the static library: the counts, the five arrays, the half-edges and positions lent by the methods named, and what else it takes.
+/// A call of the static library: the counts, the five arrays, the half-edges and positions (and the faces' arrays) lent by the methods named, and what else it takes.
 macro_rules! call {
     ($entry:ident, $used:expr, $net:ident, $halfedges:ident, $positions:ident $(, $more:expr)*) => {
+        call!($entry, $used, $net, ($halfedges, $positions, as_ptr) $(, $more)*)
+    };
+    ($entry:ident, $used:expr, $net:ident, ($halfedges:ident, $positions:ident, $faces:ident) $(, $more:expr)*) => {
         unsafe {
             raw::$entry(
                 $used,
@@ -34,9 +59,9 @@ macro_rules! call {
                 $net.halfedges.len() * 4,
                 $net.positions.$positions().cast(),
                 $net.positions.len() * 3,
-                $net.normals.as_ptr().cast(),
+                $net.normals.$faces().cast(),
                 $net.normals.len() * 3,
-                $net.references.as_ptr().cast(),
+                $net.references.$faces().cast(),
                 $net.references.len() * 3,
                 $net.properties.as_ptr().cast(),
                 $net.properties.len(),
@@ -56,6 +81,30 @@ impl Net {
             properties: self.properties.len().checked_div(self.num_prop).unwrap_or(0),
             num_prop: self.num_prop,
         }
+    }
+
+    /// Makes a call with so many free triangles and vertices behind the rows in use; where they were too few, with all that the bounds allow. Where it is
+    /// done the rows that are in use then are kept, else those that were.
+    fn with_room(&mut self, triangles: usize, vertices: usize, call: impl Fn(&mut Net, Used) -> Result<InUse, Refusal>) -> Result<(), Refusal> {
+        let used = self.used();
+        let mut said = Err(Refusal::NoRoom);
+        for (triangles, vertices) in [(triangles, vertices), (MOST_TRIANGLES, MOST_VERTICES)] {
+            if said == Err(Refusal::NoRoom) {
+                self.resize(used, InUse { halfedges: used.halfedges + 3 * triangles, vertices: used.vertices + vertices });
+                said = call(self, used);
+            }
+        }
+        self.resize(used, said.unwrap_or(InUse { halfedges: used.halfedges, vertices: used.vertices }));
+        said.map(|_| ())
+    }
+
+    fn resize(&mut self, used: Used, rows: InUse) {
+        // normals and references that are not in use stay so
+        let faces = |in_use: usize| if in_use == 0 { 0 } else { in_use + (rows.halfedges - used.halfedges) / 3 };
+        self.halfedges.resize(rows.halfedges, Halfedge::default());
+        self.positions.resize(rows.vertices, Vec3::default());
+        self.normals.resize(faces(used.normals), Vec3::default());
+        self.references.resize(faces(used.references), Reference::default());
     }
 
     /// Whether the net is sound: what every operation on it asks for first, but for `pair_up` and `orbit_owners`.
@@ -171,8 +220,7 @@ impl Net {
     /// ```
     pub fn form_loop(&mut self, first: i32, second: i32) -> Result<(), Refusal> {
         let used = self.used();
-        let mut spare_halfedges = vec![0i32; used.halfedges * 4];
-        let mut spare_positions = vec![0u64; used.vertices * 3];
+        let mut spare = Spare::of(used);
         self.positions.resize(used.vertices + 2, Vec3::default());
         let told = call!(
             spoonferret_form_loop,
@@ -180,10 +228,10 @@ impl Net {
             self,
             as_mut_ptr,
             as_mut_ptr,
-            spare_halfedges.as_mut_ptr(),
-            spare_halfedges.len(),
-            spare_positions.as_mut_ptr(),
-            spare_positions.len(),
+            spare.halfedges.as_mut_ptr(),
+            spare.halfedges.len(),
+            spare.positions.as_mut_ptr(),
+            spare.positions.len(),
             first,
             second
         );
@@ -279,5 +327,54 @@ impl Net {
         self.positions.truncate(used.vertices + told.added);
         visit.truncate(told.steps);
         Refusal::unless_sound_and_done(told.number, told.row, visit)
+    }
+
+    /// Takes a duplicate edge apart: `halfedge` is duplicated where another of its fan ends at the same vertex. Where the two lie in one fan of the end
+    /// as well, the end is copied for the half-edges between them, and two triangles are appended that fill the gap, with the `prop_vert`s, references and
+    /// normals of what lies beside them; else a whole fan gets a copy of the end. The net is sound afterwards.
+    ///
+    /// A half-edge that is NOT duplicated is not refused: its corners move to copies of the end's position, as the Rust's do. `dedupe_edges` asks first.
+    ///
+    /// # Errors
+    ///
+    /// `Shape`, `Unsound` with the least row that is not in order, `Number` and `Dead` of the half-edge, and `NoRoom` at the bounds of 1,000,000 triangles and
+    /// vertices. The net is as it was. (`Stopped` is never given on a sound net.)
+    ///
+    /// ```
+    /// use spoonferret::{Halfedge, Net, Refusal, Vec3};
+    /// // the edge from 0 to 1 is there twice: half-edges 0 and 9
+    /// let rows = [
+    ///     [0, 1, 6], [1, 2, 5], [2, 0, 4], [1, 0, 9], [0, 2, 2], [2, 1, 1],
+    ///     [1, 0, 0], [0, 3, 11], [3, 1, 10], [0, 1, 3], [1, 3, 8], [3, 0, 7],
+    /// ];
+    /// let mut net = Net {
+    ///     halfedges: rows.iter().map(|r| Halfedge::new(r[0], r[1], r[2], -1)).collect(),
+    ///     positions: (0..4).map(|i| Vec3::new(i as f64, 0.0, 0.0)).collect(),
+    ///     ..Net::default()
+    /// };
+    /// assert_eq!(net.dedupe_edge(12), Err(Refusal::Number));
+    /// assert_eq!(net.dedupe_edge(9), Ok(()));
+    /// // two triangles more, and a vertex 4 where vertex 1 is
+    /// assert_eq!((net.halfedges.len(), net.positions.len()), (18, 5));
+    /// assert_eq!(net.positions[4], net.positions[1]);
+    /// assert_eq!(net.halfedges[9], Halfedge::new(0, 4, 3, -1));
+    /// assert_eq!(net.check(), Ok(()));
+    /// ```
+    pub fn dedupe_edge(&mut self, halfedge: i32) -> Result<(), Refusal> {
+        self.with_room(2, 2, |net, used| {
+            let mut spare = Spare::of(used);
+            let told = call!(
+                spoonferret_dedupe_edge,
+                used,
+                net,
+                (as_mut_ptr, as_mut_ptr, as_mut_ptr),
+                spare.halfedges.as_mut_ptr(),
+                spare.halfedges.len(),
+                spare.positions.as_mut_ptr(),
+                spare.positions.len(),
+                halfedge
+            );
+            Refusal::unless_sound_and_done(told.number, told.row, InUse { halfedges: told.halfedges, vertices: told.vertices })
+        })
     }
 }

@@ -68,6 +68,14 @@ pub struct LoopAnswer {
     pub vertices: usize,
 }
 
+#[repr(C)]
+pub struct DedupeEdgeAnswer {
+    pub number: u32,
+    pub row: usize,
+    pub halfedges: usize,
+    pub vertices: usize,
+}
+
 extern "C" {
     pub fn spoonferret_next_halfedge(h: i32) -> NextAnswer;
 
@@ -215,4 +223,23 @@ extern "C" {
         visit: *mut u32,
         visit_length: usize,
     ) -> SplitAnswer;
+
+    pub fn spoonferret_dedupe_edge(
+        used: Used,
+        halfedges: *mut i32,
+        halfedges_length: usize,
+        positions: *mut u64,
+        positions_length: usize,
+        normals: *mut u64,
+        normals_length: usize,
+        references: *mut i32,
+        references_length: usize,
+        properties: *const u64,
+        properties_length: usize,
+        spare_halfedges: *mut i32,
+        spare_halfedges_length: usize,
+        spare_positions: *mut u64,
+        spare_positions_length: usize,
+        halfedge: i32,
+    ) -> DedupeEdgeAnswer;
 }

@@ -260,6 +260,91 @@ fn split() {
     assert!(same(&net, &before));
 }
 
+/// The edge from 0 to 1 twice: half-edges 0 and 9, and 3 and 6 the other way. Vertex v is at v.
+fn pillows() -> Net {
+    let rows = [
+        [0, 1, 6],
+        [1, 2, 5],
+        [2, 0, 4],
+        [1, 0, 9],
+        [0, 2, 2],
+        [2, 1, 1],
+        [1, 0, 0],
+        [0, 3, 11],
+        [3, 1, 10],
+        [0, 1, 3],
+        [1, 3, 8],
+        [3, 0, 7],
+    ];
+    Net {
+        halfedges: rows.iter().enumerate().map(|(h, r)| Halfedge::new(r[0], r[1], r[2], h as i32)).collect(),
+        positions: (0..4).map(|v| Vec3::new(v as f64, 0.0, 0.0)).collect(),
+        ..Net::default()
+    }
+}
+
+/// Starts, ends and pairs.
+fn plain(net: &Net) -> Vec<[i32; 3]> {
+    net.halfedges.iter().map(|h| [h.start_vert, h.end_vert, h.paired_halfedge]).collect()
+}
+
+/// What taking the edge of the pillows apart leaves.
+const APART: [[i32; 3]; 18] = [
+    [0, 1, 6],
+    [1, 2, 14],
+    [2, 0, 4],
+    [4, 0, 9],
+    [0, 2, 2],
+    [2, 4, 13],
+    [1, 0, 0],
+    [0, 3, 11],
+    [3, 1, 16],
+    [0, 4, 3],
+    [4, 3, 17],
+    [3, 0, 7],
+    [1, 4, 15],
+    [4, 2, 5],
+    [2, 1, 1],
+    [4, 1, 12],
+    [1, 3, 8],
+    [3, 4, 10],
+];
+
+#[test]
+fn dedupe() {
+    let mut net = pillows();
+    net.references = (0..4).map(|t| Reference { mesh_id: t, coplanar_id: 0, face_id: 0 }).collect();
+    net.normals = (0..4).map(|t| Vec3::new(0.0, 0.0, t as f64)).collect();
+    let before = net.clone();
+    for (h, refusal) in [(-1, Refusal::Number), (12, Refusal::Number)] {
+        assert_eq!(net.dedupe_edge(h), Err(refusal));
+        assert_eq!(net, before);
+    }
+    assert_eq!(net.dedupe_edge(9), Ok(()));
+    assert_eq!(plain(&net), APART);
+    assert_eq!(net.positions.len(), 5);
+    assert_eq!(net.positions[4], net.positions[1]);
+    // each new triangle has the face of the one beside which it stands
+    assert_eq!((net.references.len(), net.normals.len()), (6, 6));
+    assert_eq!(net.references[4..].iter().map(|r| r.mesh_id).collect::<Vec<_>>(), [1, 2].map(|t| before.references[t].mesh_id));
+    assert_eq!(net.check(), Ok(()));
+
+    // P: nothing is there twice, and the start's fan gets a copy of the END's position
+    let mut net = p();
+    net.positions.truncate(3);
+    assert_eq!(net.dedupe_edge(0), Ok(()));
+    assert_eq!(plain(&net), [[4, 3, 3], [3, 2, 5], [2, 4, 4], [3, 4, 0], [4, 2, 2], [2, 3, 1]]);
+    assert_eq!(net.positions[3..], [net.positions[1]; 2]);
+
+    let mut net = pillows();
+    net.halfedges.extend([NONE; 3]);
+    assert_eq!(net.dedupe_edge(12), Err(Refusal::Dead));
+    net.halfedges[1].end_vert = 3;
+    assert_eq!(net.dedupe_edge(0), Err(Refusal::Unsound { row: 1 }));
+    net.halfedges.pop();
+    assert_eq!(net.dedupe_edge(0), Err(Refusal::Shape));
+}
+
 #[test]
 fn refusals_say_their_number() {
     let all = [

@@ -1,0 +1,19 @@
+-- What each exported function that repairs a net tells its caller of what was said: the number, and each value that came with it; 0 for a
+-- value that did not come.
+use Prim.Native.Nat.{ℕ}
+use Rattle.answers.specs.Answers.{Said}
+use Rattle.told.specs.Told.{count-on}
+use Rattle.repairtold.specs.declared.DedupeEdgeAnswer.{DedupeEdgeAnswer}
+use Rattle.repairtold.specs.declared.DedupeEdgesAnswer.{DedupeEdgesAnswer}
+
+abbrev pub edge-told : Said → DedupeEdgeAnswer
+edge-told s = record { number = s .number; row = count-on 3 s 0; halfedges = count-on 0 s 0; vertices = count-on 0 s 1 }
+
+abbrev pub edge-refused : ℕ → DedupeEdgeAnswer
+edge-refused number = record { number = number; row = 0; halfedges = 0; vertices = 0 }
+
+abbrev pub edges-told : Said → DedupeEdgesAnswer
+edges-told s = record { number = s .number; row = count-on 3 s 0; halfedges = count-on 0 s 0; vertices = count-on 0 s 1 }
+
+abbrev pub edges-refused : ℕ → DedupeEdgesAnswer
+edges-refused number = record { number = number; row = 0; halfedges = 0; vertices = 0 }
