@@ -1,18 +1,21 @@
--- The cases of "Both sides of each edge" that document 01 marks with *, but for the one of collapse_edge, which comes with it: one table,
--- and one statement, proved by computing. A row has what the definition that a contract cites gives, and what document 01 says.
+-- The cases of "Both sides of each edge" that document 01 marks with *, all of them: one table, and one statement, proved by computing. A
+-- row has what the definition that a contract cites gives, and what document 01 says.
 use mathlib.Core.Path.{_≡_, refl}
 use mathlib.Core.List.{List, [], _∷_, _++_, map}
 use Prim.Native.Nat.{ℕ}
 use native.Mathlib.Decide.{ℕ-discrete}
 use lib.Ieee.{Float, binary64, add, sub, mul, lt, ofInt, ofBits}
 use lib.IntN.{ℤ, pos, negsuc}
-use lib.ListN.{replicate}
+use lib.ListN.{drop, replicate}
 use Rattle.answers.specs.Answers.{Said, whole, float, done, bad-number, no-room, stopped, long}
+use Rattle.collapse.specs.CollapseEdge.{Left, collapseSettled, collapseNamed, collapseEdge, tolerance}
+use Rattle.collapsing.specs.Collapse.{between, judge, close, about, short-at, collapse-at}
 use Rattle.floats.specs.declared.Vec3.{Vec3}
 use Rattle.floats.specs.Short.{shortTest, limitOf, toleranceOf}
 use Rattle.numbers.specs.Next.{next, nextZ, no-next, nextAnswer}
-use Rattle.rows.specs.Halfedges.{column, set-column, startOf, endOf}
-use Rattle.rows.specs.Triples.{triple, put-triple, zero-triples}
+use Rattle.rings.specs.Ring.{ring, inner, spin, turn-once}
+use Rattle.rows.specs.Halfedges.{column, set-column, startOf, endOf, over-rows}
+use Rattle.rows.specs.Triples.{triple, put-triple, over-triples, zero-triples}
 use Rattle.net.specs.Counts.{is-shaped, triangle-capacity-over, vertex-capacity-over, property-capacity-over}
 use Rattle.net.specs.Sound.{turn}
 use Rattle.example.specs.Example.{rows, positions, P-rows, P-positions, counts, bare}
@@ -23,9 +26,10 @@ use Rattle.soundness.specs.Check.{checkNet}
 use Rattle.soundness.specs.Order.{live, in-order, first-failing}
 use Rattle.splitting.specs.Split.{Outcome, split-sound, splitPinched}
 use Rattle.splitting.specs.Steps.{flag-walk, relabel-walk, count-step, count, split-step, split-rows}
+use Rattle.triangles.specs.Triangles.{emptied, collapsed, collapse}
 use Rattle.turning.specs.Walk.{walk as fan-walk, walk-end}
 use Rattle.walks.specs.UpdateVert.{updateVert, updateNamed, updateAt}
-use Rattle.walks.specs.Walk.{reaches, walk, onward, moved}
+use Rattle.walks.specs.Walk.{reaches, walk, onward, moved, update}
 
 pub record Case : Type 0 where
   pub gives : Said
@@ -65,6 +69,23 @@ with-six = split-with six .halfedges
 abbrev remove-P : Out
 remove-P = removeIfFolded (counts 6 3) (bare P-rows P-positions) (pos 0)
 
+-- P with a property row at each half-edge; edge 0 is 1 long, and short by tol 2
+abbrev row-with : ℕ → ℕ → ℕ → ℕ → List ℤ
+row-with start end pair prop = pos start ∷ pos end ∷ pos pair ∷ pos prop ∷ []
+
+abbrev dead-with : ℕ → List ℤ
+dead-with prop = negsuc 0 ∷ negsuc 0 ∷ negsuc 0 ∷ pos prop ∷ []
+
+abbrev P-with : List ℤ
+P-with = row-with 0 1 3 40 ++ row-with 1 2 5 41 ++ row-with 2 0 4 42 ++ row-with 1 0 0 43 ++ row-with 0 2 2 44 ++ row-with 2 1 1 45
+
+abbrev P-dead : List ℤ
+P-dead = dead-with 40 ++ dead-with 41 ++ dead-with 42 ++ dead-with 43 ++ dead-with 44 ++ dead-with 45
+
+abbrev collapse-P : Left
+collapse-P =
+    collapseEdge (counts 6 3) (bare P-with P-positions) (replicate 24 (pos 0)) (replicate 9 0) (replicate 6 0) (pos 0) (tolerance (pos 2) (exact (pos 2)) (exact (pos 0)))
+
 abbrev update-P : ℤ → ℤ → Said
 update-P start end = updateVert (counts 6 3) (bare P-rows P-positions) (pos 0) start end .0
 
@@ -88,6 +109,10 @@ table =
     ∷ (short-3-4 (pos 5) (pos 6) gives long (exact (pos 25)) (exact (pos 25)))
     ∷ (done (float (limitOf (pos 1) (pos 2) (toleranceOf (exact (negsuc 0)) (exact (pos 6))) (exact (pos 6))) ∷ []) gives done (float (exact (pos 36)) ∷ []))
     ∷ (short-3-4 (negsuc 0) (pos 6) gives done [])
+    -- P, collapse of short edge 0: all rows dead, props kept, position 0 NaN
+    ∷ (collapse-P .said gives number (pos 3))
+    ∷ (numbers (collapse-P .halfedges) gives numbers P-dead)
+    ∷ (numbers (map pos (collapse-P .positions)) gives numbers (map pos (replicate 3 0x7FF8000000000000 ++ drop 3 P-positions)))
     -- P, remove_if_folded at 0: all dead, props −1, three NaN positions
     ∷ (remove-P .0 gives done [])
     ∷ (numbers (remove-P .1 .0) gives numbers (replicate 24 (negsuc 0)))
@@ -98,5 +123,5 @@ table =
     ∷ []
 
 pub table-holds : map (λ (k : Case). k .gives) table ≡ map (λ (k : Case). k .is) table
-unfolding removeIfFolded foldNamed fold fold-at take-out clear cleared join joined has-pair lose-folded lose paired splitPinched split-sound count count-step split-rows split-step flag-walk relabel-walk fan-walk walk-end ℕ-discrete triple put-triple zero-triples next nextZ no-next column set-column add sub mul lt ofInt ofBits is-shaped triangle-capacity-over vertex-capacity-over property-capacity-over checkNet live in-order first-failing updateVert updateNamed updateAt reaches walk onward moved
+unfolding collapseEdge collapseNamed collapseSettled collapse-at judge between short-at about close ring spin inner turn-once collapse collapsed emptied update over-rows over-triples removeIfFolded foldNamed fold fold-at take-out clear cleared join joined has-pair lose-folded lose paired splitPinched split-sound count count-step split-rows split-step flag-walk relabel-walk fan-walk walk-end ℕ-discrete triple put-triple zero-triples next nextZ no-next column set-column add sub mul lt ofInt ofBits is-shaped triangle-capacity-over vertex-capacity-over property-capacity-over checkNet live in-order first-failing updateVert updateNamed updateAt reaches walk onward moved
 table-holds = refl
