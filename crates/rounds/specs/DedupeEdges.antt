@@ -1,14 +1,14 @@
 -- The entry dedupe_edges: answers 1, 2, 3, then 6 or 7, whichever the rounds meet first; 0 with the half-edges and vertices in use.
 use mathlib.Core.Bool.{Bool, cond, _&&_}
 use mathlib.Core.List.{List, [], _∷_}
-use Prim.Native.Nat.{ℕ}
+use Prim.Native.Nat.{ℕ, _≤_}
 use lib.IntN.{ℤ, pos}
 use lib.ListN.{length}
 use Rattle.answers.specs.Answers.{Said, whole, done, shape, short-buffer, unsound, no-room, stopped}
 use Rattle.laws.specs.Stretches.{cleared}
 use Rattle.numbers.specs.Numbers.{halfedgeNumber}
-use Rattle.rows.specs.Halfedges.{over-rows}
-use Rattle.rows.specs.Triples.{over-triples}
+use Rattle.rows.specs.Halfedges.{lent-halfedges, over-rows}
+use Rattle.rows.specs.Triples.{lent-triples, over-triples}
 use Rattle.net.specs.declared.Counts.{Counts}
 use Rattle.net.specs.Net.{Net}
 use Rattle.net.specs.Counts.{is-shaped, is-long, spare-holds}
@@ -61,13 +61,21 @@ roundsAt l H N rows positions normals references saved held work list =
     (settled l H N rows positions normals references (rounds l H (begun H N rows positions normals references) .growing))
 
 -- the spare holds the rows in use; the work buffer has an entry for each of `long`, the list one for each half-edge that there can be
-abbrev pub lent-enough : Counts → Limits → ℕ → List ℤ → List ℕ → List ℕ → List ℕ → Bool
-lent-enough c l long saved held work list = spare-holds c saved held && is-long (length work) long && is-long (length list) (l .halfedges)
+abbrev pub lent-enough : Counts → ℕ → ℕ → List ℤ → List ℕ → List ℕ → List ℕ → Bool
+lent-enough c capacity long saved held work list = spare-holds c saved held && is-long (length work) long && is-long (length list) capacity
+
+-- the same as facts, of a work buffer that is as long as the list at least
+pub record Enough (l : Limits) (H N long : ℕ) (saved : List ℤ) (held work list : List ℕ) : Type 0 where
+  pub rows-saved : H ≤ lent-halfedges saved
+  pub positions-held : N ≤ lent-triples held
+  pub capacity-long : l .halfedges ≤ long
+  pub work-long : long ≤ length work
+  pub list-long : l .halfedges ≤ length list
 
 unfoldable pub dedupeEdges : Counts → Net → List ℤ → List ℕ → List ℕ → List ℕ → Left
 dedupeEdges c n saved held work list =
     cond (is-shaped c n)
-    (cond (lent-enough c (limits-of c n) (limits-of c n .halfedges) saved held work list)
+    (cond (lent-enough c (limits-of c n .halfedges) (limits-of c n .halfedges) saved held work list)
     (past (sound-or (least-out (c .halfedges) (c .vertices) (n .halfedges))) (λ s. as-lent s n saved held work list)
     (roundsAt (limits-of c n) (c .halfedges) (c .vertices) (n .halfedges) (n .positions) (n .normals) (n .references) saved held work list))
     (as-lent short-buffer n saved held work list))
