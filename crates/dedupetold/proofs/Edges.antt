@@ -2,7 +2,7 @@
 -- checks it says 0, with the net sound over the counts that it says, or 6, with everything as at entry but the free rows that had been
 -- filled.
 use mathlib.Core.Path.{_≡_, refl}
-use mathlib.Core.Bool.{true}
+use mathlib.Core.Bool.{Bool, true, _&&_}
 use mathlib.Core.List.{List}
 use Prim.Native.Nat.{ℕ, _≤_}
 use native.Mathlib.Omega.{arith}
@@ -14,7 +14,7 @@ use Rattle.rows.specs.Halfedges.{lent-halfedges}
 use Rattle.rows.specs.Triples.{lent-triples}
 use Rattle.net.specs.declared.Counts.{Counts}
 use Rattle.net.specs.Net.{Net, net}
-use Rattle.net.specs.Counts.{halfedge-capacity}
+use Rattle.net.specs.Counts.{halfedge-capacity, is-long, spare-holds}
 use Rattle.net.specs.Sound.{Sound}
 use Rattle.net.proofs.Shape.{shaped-true}
 use Rattle.soundness.specs.Check.{sound-or}
@@ -24,7 +24,7 @@ use Rattle.growth.specs.Growth.{Growing, settled}
 use Rattle.settling.specs.Settling.{limits-of, begun}
 use Rattle.settling.proofs.Entry.{begun-fits}
 use Rattle.rounds.specs.Rounds.{rounds}
-use Rattle.rounds.specs.DedupeEdges.{Left, as-lent, roundsAt, lent-enough, dedupeEdges}
+use Rattle.rounds.specs.DedupeEdges.{Left, as-lent, roundsAt, dedupeEdges}
 use Rattle.rounds.proofs.Grown.{rounds-grew}
 use Rattle.refusals.specs.Refusals.{nothing-asked, of-sound, Early, Refusals}
 use Rattle.refusals.proofs.Law.{Tells, goes}
@@ -39,7 +39,11 @@ module _ (c : Counts) (n : Net) (long : ℕ) (saved : List ℤ) (held work list 
   abbrev pub LentEnough : Type 0
   LentEnough = (((c .halfedges ≤ lent-halfedges saved) × (c .vertices ≤ lent-triples held)) × (long ≤ length work)) × (halfedge-capacity c n ≤ length list)
 
-  pub told-lent : Tells (lent-enough c (limits-of c n) long saved held work list) LentEnough
+  -- as the tests have it
+  abbrev pub is-lent : Bool
+  is-lent = spare-holds c saved held && is-long (length work) long && is-long (length list) (halfedge-capacity c n)
+
+  pub told-lent : Tells is-lent LentEnough
   told-lent =
       told-both (told-both (told-both (told-least (c .halfedges) (lent-halfedges saved)) (told-least (c .vertices) (lent-triples held))) (told-least long (length work)))
       (told-least (halfedge-capacity c n) (length list))
@@ -78,7 +82,7 @@ module _ (c : Counts) (n : Net) (saved : List ℤ) (held work list : List ℕ) w
   unfolding dedupeEdges
   edges-refusals =
       long-refusals c n said entry (λ s. refl) Long nothing-asked nothing-asked
-      (lent-enough c l (l .halfedges) saved held work list) true true
+      (is-lent c n (halfedge-capacity c n) saved held work list) true true
       (told-lent c n (halfedge-capacity c n) saved held work list) told-nothing told-nothing
       (λ w. past (sound-or w) entry at-rounds) (λ h. refl) (goes said entry (λ s. refl) at-rounds late)
 
