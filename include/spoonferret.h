@@ -104,6 +104,16 @@ typedef struct {
     size_t vertices;
 } spoonferret_dedupe_edge_answer;
 
+/* vertices: vertex rows in use afterwards; row: the least row not in order; squared_length and limit: the bit patterns of doubles, where the
+   edge is long; a NaN is always 0x7FF8000000000000. */
+typedef struct {
+    uint32_t number;
+    size_t row;
+    size_t vertices;
+    uint64_t squared_length;
+    uint64_t limit;
+} spoonferret_collapse_edge_answer;
+
 /* count: half-edges listed. */
 typedef struct {
     uint32_t number;
@@ -240,6 +250,31 @@ spoonferret_dedupe_edge_answer spoonferret_dedupe_edge(spoonferret_used used, in
                                                        int32_t *spare_halfedges, size_t spare_halfedges_length,
                                                        uint64_t *spare_positions, size_t spare_positions_length,
                                                        int32_t halfedge);
+
+/* Takes a short edge out: its two triangles go, and what met its start meets its end. Short is what short_test says of the two positions, with the
+   half-edge's end vertex and first_new_vert, tol and epsilon; first_new_vert is a limit and names no row.
+   The neighbours of the end are listed. The start's position becomes the bits 0x7FF8000000000000 (NaN) for x, y and z. The partner's triangle is taken out as
+   by collapse_tri. About the start each corner gets the end vertex; where num_prop is above 0 and references are in use, its prop_vert becomes that of the end in
+   the edge's triangle if it has the same reference, else that of the partner if it has the same as the partner's triangle. A neighbour that is listed
+   already forms a loop, as form_loop does, with two vertices appended, and the list is cut to before it. Then the edge's triangle is taken out, and
+   remove_if_folded is done where the last loop left off.
+   A net with no pinched vertex and no duplicate edge is sound afterwards in all runs; on others 0 may leave a net that is not sound. Do
+   cleanup_topology before.
+   spare_halfedges needs 4 * used.halfedges elements, spare_positions 3 * used.vertices; list needs the half-edge capacity (as for dedupe_edge).
+   0: done; vertices are in use then. 1: shape. 2: a spare or list is too short. 3: not sound; row. 4: halfedge is not in 0..used.halfedges. 5: it is dead.
+   8: long (also with a NaN); squared_length and limit say why. 6: positions has no two free rows for a loop. 7: a walk does not end.
+   After 6 and 7 the rows in use are as they were, and the vertex rows that had been filled read zero; the others are as they were. After 0, 6 and 7 the
+   spares hold the rows in use as they were at the call, list reads zero, over the needed lengths, and all are unchanged beyond; after 1 to 5 and 8 spares
+   and list are as they were. */
+spoonferret_collapse_edge_answer spoonferret_collapse_edge(spoonferret_used used, int32_t *halfedges, size_t halfedges_length,
+                                                           uint64_t *positions, size_t positions_length, const uint64_t *normals,
+                                                           size_t normals_length, const int32_t *references,
+                                                           size_t references_length, const uint64_t *properties,
+                                                           size_t properties_length, int32_t *spare_halfedges,
+                                                           size_t spare_halfedges_length, uint64_t *spare_positions,
+                                                           size_t spare_positions_length, uint32_t *list, size_t list_length,
+                                                           int32_t halfedge, int32_t first_new_vert, double tol,
+                                                           double epsilon);
 
 #ifdef __cplusplus
 }

@@ -334,6 +334,15 @@ static int spares_hold(const lent_net *n, int taken) {
            memcmp(n->spare_positions, owed.spare_positions, sizeof owed.spare_positions) == 0;
 }
 
+static int words(const uint32_t *values, size_t count, uint32_t wanted) {
+    for (size_t i = 0; i < count; i++) {
+        if (values[i] != wanted) {
+            return 0;
+        }
+    }
+    return 1;
+}
+
 static void dedupe_one(void) {
     /* refused before the steps: nothing is written, the spares neither */
     lent_net n = roomy(2, 1);
@@ -385,6 +394,76 @@ static void dedupe_one(void) {
     EXPECT(spoonferret_check_net(ROOMY).number == 0);
 }
 
+static void collapse(void) {
+    const uint32_t filled = 0x55555555;
+    /* P: the edge from (0, 0, 0) to (1, 0, 0) */
+    lent_net n = roomy(0, 0);
+    n.used = (spoonferret_used){.halfedges = 6, .vertices = 3};
+    memcpy(n.rows, example, 24 * sizeof *n.rows);
+    n.rows[3] = 8;
+    n.lent_rows = 7;
+    n.lent_positions = 3;
+    lent_net before = n;
+    EXPECT(spoonferret_collapse_edge(ROOMY, SPARES, n.list, 5, 0, 2, 2, 0).number == 2);
+    EXPECT(spoonferret_collapse_edge(ROOMY, n.spare_rows, 23, n.spare_positions, 17, n.list, 26, 0, 2, 2, 0).number == 2);
+    EXPECT(spoonferret_collapse_edge(ROOMY, SPARES, n.list, 26, 6, 2, 2, 0).number == 4);
+    /* 1 is not below 1; beyond first_new_vert the limit is epsilon's; a tol below 0 stands for epsilon, and -0 is not below 0 */
+    spoonferret_collapse_edge_answer told = spoonferret_collapse_edge(ROOMY, SPARES, n.list, 26, 0, 2, 1, 9);
+    EXPECT(told.number == 8 && told.row == 0 && told.vertices == 0 && of_bits(told.squared_length) == 1 && of_bits(told.limit) == 1);
+    told = spoonferret_collapse_edge(ROOMY, SPARES, n.list, 26, 0, 1, 9, 0.5);
+    EXPECT(told.number == 8 && of_bits(told.squared_length) == 1 && of_bits(told.limit) == 0.25);
+    told = spoonferret_collapse_edge(ROOMY, SPARES, n.list, 26, 0, 2, -0.0, 9);
+    EXPECT(told.number == 8 && of_bits(told.limit) == 0);
+    told = spoonferret_collapse_edge(ROOMY, SPARES, n.list, 26, 0, 2, of_bits(NAN_BITS | 5), 9);
+    EXPECT(told.number == 8 && of_bits(told.squared_length) == 1 && told.limit == NAN_BITS);
+    EXPECT(memcmp(&n, &before, sizeof n) == 0);
+    /* all rows dead, props kept, position 0 NaN */
+    told = spoonferret_collapse_edge(ROOMY, SPARES, n.list, 26, 0, 2, -1, 1.5);
+    static const int32_t gone[24] = {-1, -1, -1, 8, -1, -1, -1, -1, -1, -1, -1, -1, -1, -1, -1, -1, -1, -1, -1, -1, -1, -1, -1, -1};
+    EXPECT(told.number == 0 && told.row == 0 && told.vertices == 3 && told.squared_length == 0 && told.limit == 0);
+    EXPECT(memcmp(n.rows, gone, sizeof gone) == 0 && memcmp(n.rows + 24, before.rows + 24, 4 * sizeof *n.rows) == 0);
+    EXPECT(all(n.positions, 3, NAN_BITS) && memcmp(n.positions + 3, before.positions + 3, 21 * sizeof *n.positions) == 0);
+    EXPECT(memcmp(n.spare_rows, before.rows, 24 * sizeof *n.rows) == 0 && n.spare_rows[24] == 0x55555555);
+    EXPECT(words(n.list, 6, 0) && words(n.list + 6, 20, filled));
+    EXPECT(spoonferret_collapse_edge(ROOMY, SPARES, n.list, 26, 0, 2, -1, 1.5).number == 5);
+
+    /* three triangles between two apexes: the loop at vertex 2 needs two vertices; then nothing is left */
+    static const int32_t apexes[72] = {0, 1, 3,  -1, 1, 3, 8,  -1, 3, 0, 13, -1, 1, 0, 0,  -1, 0, 4, 17, -1, 4, 1, 10, -1,
+                                       1, 2, 9,  -1, 2, 3, 14, -1, 3, 1, 1,  -1, 2, 1, 6,  -1, 1, 4, 5,  -1, 4, 2, 16, -1,
+                                       2, 0, 15, -1, 0, 3, 2,  -1, 3, 2, 7,  -1, 0, 2, 12, -1, 2, 4, 11, -1, 4, 0, 4,  -1};
+    n = roomy(2, 0);
+    n.used = (spoonferret_used){.halfedges = 18, .vertices = 5};
+    memcpy(n.rows, apexes, sizeof apexes);
+    memcpy(n.positions, points, sizeof points);
+    n.lent_positions = 6;
+    told = spoonferret_collapse_edge(ROOMY, SPARES, n.list, 26, 0, 2, 9, 9);
+    EXPECT(told.number == 6 && told.vertices == 0 && memcmp(n.rows, apexes, sizeof apexes) == 0);
+    EXPECT(memcmp(n.positions, points, sizeof points) == 0 && all(n.positions + 15, 3, 0) && n.positions[18] == UINT64_C(0x5555555555555555));
+    EXPECT(words(n.list, 18, 0) && words(n.list + 18, 8, filled));
+    n.lent_positions = 7;
+    told = spoonferret_collapse_edge(ROOMY, SPARES, n.list, 26, 0, 2, 9, 9);
+    EXPECT(told.number == 0 && told.vertices == 7 && all(n.positions, 21, NAN_BITS));
+    for (int h = 0; h < 18; h++) {
+        EXPECT(n.rows[4 * h] == -1 && n.rows[4 * h + 1] == -1 && n.rows[4 * h + 2] == -1);
+    }
+
+    /* a walk that does not end: two rows had been filled */
+    static const int32_t endless[48] = {0, 1, 3, -1, 1, 2, 5,  -1, 2, 0, 6,  -1, 1, 0, 0, -1, 0, 2, 9, -1, 2, 1, 1, -1,
+                                        0, 2, 2, -1, 2, 1, 11, -1, 1, 0, 10, -1, 2, 0, 4, -1, 0, 1, 8, -1, 1, 2, 7, -1};
+    n = roomy(0, 0);
+    n.used = (spoonferret_used){.halfedges = 12, .vertices = 3};
+    memcpy(n.rows, endless, sizeof endless);
+    memset(n.positions + 9, 0x55, 15 * sizeof *n.positions);
+    n.lent_positions = 6;
+    told = spoonferret_collapse_edge(ROOMY, SPARES, n.list, 26, 2, 2, 9, 9);
+    EXPECT(told.number == 7 && told.row == 0 && told.vertices == 0 && memcmp(n.rows, endless, sizeof endless) == 0);
+    EXPECT(memcmp(n.positions, points, 9 * sizeof *n.positions) == 0 && all(n.positions + 9, 6, 0));
+    EXPECT(all(n.positions + 15, 3, UINT64_C(0x5555555555555555)));
+    n.rows[0] = 7;
+    told = spoonferret_collapse_edge(ROOMY, SPARES, n.list, 26, 2, 2, 9, 9);
+    EXPECT(told.number == 3 && told.row == 0 && told.vertices == 0);
+}
+
 int main(void) {
     next_and_tri();
     short_or_long();
@@ -394,6 +473,7 @@ int main(void) {
     owners();
     split();
     dedupe_one();
+    collapse();
     printf("%d passed, %d failed\n", passed, failed);
     return failed != 0;
 }

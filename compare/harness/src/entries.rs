@@ -2,7 +2,7 @@
 
 use crate::chance::Chance;
 use crate::lent::{signed, Asked, Guarded, GuardedNet, Lent, Said};
-use crate::reading::{self, bits_of, caught, Ran};
+use crate::reading::{self, bits_of, caught, Ran, Shortness};
 use original::impl_mesh::ManifoldImpl;
 use original::linalg::{dot, Vec3};
 use spoonferret::raw;
@@ -83,6 +83,16 @@ pub const ALL: &[Entry] = &[
     Entry { name: "remove_if_folded", on_nets: true, fields: &[Plain("row")], ours: fold_ours, owed: fold_owed, asks: halfedge_asks, all: each_halfedge, lends: no_buffers },
     Entry { name: "form_loop", on_nets: true, fields: &[Plain("row"), Plain("vertices")], ours: loop_ours, owed: loop_owed, asks: loop_asks, all: each_pair, lends: loop_lends },
     Entry { name: "dedupe_edge", on_nets: true, fields: GROWN, ours: dedupe_ours, owed: dedupe_owed, asks: halfedge_asks, all: each_halfedge, lends: loop_lends },
+    Entry {
+        name: "collapse_edge",
+        on_nets: true,
+        fields: &[Plain("row"), Plain("vertices"), Plain("squared_length"), Plain("limit")],
+        ours: edge_ours,
+        owed: edge_owed,
+        asks: edge_asks,
+        all: each_edge,
+        lends: edge_lends,
+    },
 ];
 
 /// What the entries that append triangles and vertices tell.
@@ -677,4 +687,108 @@ fn dedupe_ours(l: &mut Lent, a: &Asked) -> Result<Said, String> {
 fn dedupe_owed(l: &mut Lent, a: &Asked) -> Said {
     let h = a.numbers[0];
     agreed_within(l, u64::MAX, |l| reading::dedupe_edge(l, h), |mesh| original::edge_op::dedupe_edge(mesh, h as usize))
+}
+
+/// Spares, a work buffer and a list that need so much, mostly enough; one of them short now and then.
+fn lent_together(l: &mut Lent, work: usize, list: usize, chance: &mut Chance) {
+    let sizes = [l.used.halfedges.saturating_mul(4), l.used.vertices.saturating_mul(3), work, list];
+    let one_short = chance.once_in(3).then(|| chance.below(4));
+    let mut filled = |k: usize| -> Vec<u64> {
+        if one_short == Some(k) {
+            return lent_about(sizes[k], chance, |b| b);
+        }
+        let enough = if sizes[k] > 12_000_000 { 20 } else { sizes[k] + chance.below(3) };
+        (0..enough).map(|_| chance.bits() | 1).collect()
+    };
+    l.spare_halfedges = filled(0).iter().map(|&b| b as i32).collect();
+    l.spare_positions = filled(1);
+    l.work_words = filled(2).iter().map(|&b| b as u32).collect();
+    l.list = filled(3).iter().map(|&b| b as u32).collect();
+}
+
+
+// collapse_edge: the short arm; the Rust takes epsilon from its mesh, and with no references its long arm panics
+
+/// The half-edge with numbers that make its edge surely short, short or long, or long by a NaN.
+fn edge_asked(l: &Lent, h: i32, surely: bool, chance: &mut Chance) -> Asked {
+    let row = l.halfedges.get(4 * (h.max(0) as usize)..).and_then(|r| r.get(..2)).unwrap_or(&[0, 0]);
+    let end = row[1];
+    let (mut first, mut floats) = (*chance.pick(&[i32::MAX, end.saturating_add(1), end, 0]), [1e9, 1e9]);
+    if !surely {
+        first = *chance.pick(&[end, end.saturating_add(1), end.saturating_sub(1), 0, i32::MIN, i32::MAX]);
+        // the length itself: equal is long
+        let at = |v: i32, k: usize| l.positions.get((v.max(0) as usize).saturating_mul(3) + k).map_or(0.0, |&b| f64::from_bits(b));
+        let length: f64 = (0..3).map(|k| (at(row[1], k) - at(row[0], k)).powi(2)).sum();
+        let any = [length.sqrt(), length.sqrt(), 4.0, 8.0, 12.0, 1e9, f64::INFINITY, -1.0, -8.0, -0.0, 0.0, f64::NAN, 1e-300];
+        floats = [*chance.pick(&any), *chance.pick(&any)];
+    }
+    Asked { numbers: vec![h, first], floats: floats.map(f64::to_bits).to_vec(), choice: false }
+}
+
+fn edge_asks(l: &Lent, chance: &mut Chance) -> Vec<Asked> {
+    let mut all: Vec<Asked> = beside(l.used.halfedges, chance).iter().map(|&h| edge_asked(l, h, false, chance)).collect();
+    for surely in [true, true, false] {
+        let h = inside(l.used.halfedges, chance);
+        all.push(edge_asked(l, h, surely, chance));
+    }
+    all
+}
+
+fn each_edge(l: &Lent, chance: &mut Chance) -> Vec<Asked> {
+    (0..l.used.halfedges as i32).flat_map(|h| [edge_asked(l, h, true, chance), edge_asked(l, h, false, chance)]).collect()
+}
+
+fn edge_lends(l: &mut Lent, chance: &mut Chance) {
+    let capacity = halfedge_capacity(l);
+    lent_together(l, 0, capacity, chance);
+    l.work_words.clear();
+}
+
+fn edge_ours(l: &mut Lent, a: &Asked) -> Result<Said, String> {
+    let mut g = GuardedNet::of(l);
+    let (mut saved, mut held) = (Guarded::new(&l.spare_halfedges), Guarded::new(&l.spare_positions));
+    let mut list = Guarded::new(&l.list);
+    let told = call!(
+        spoonferret_collapse_edge,
+        g,
+        saved.at(),
+        saved.length(),
+        held.at(),
+        held.length(),
+        list.at(),
+        list.length(),
+        a.numbers[0],
+        a.numbers[1],
+        f64::from_bits(a.floats[0]),
+        f64::from_bits(a.floats[1])
+    );
+    g.back(l)?;
+    saved.back("spare half-edges", &mut l.spare_halfedges)?;
+    held.back("spare positions", &mut l.spare_positions)?;
+    list.back("list", &mut l.list)?;
+    if told.number == 0 {
+        l.used.vertices = told.vertices;
+    }
+    Ok(Said::with(told.number, &[told.row as u64, told.vertices as u64, told.squared_length, told.limit]))
+}
+
+fn edge_owed(l: &mut Lent, a: &Asked) -> Said {
+    let (h, first_new_vert) = (a.numbers[0], a.numbers[1]);
+    let [tol, epsilon] = [0, 1].map(|k| f64::from_bits(a.floats[k]));
+    let collapsed = |mesh: &mut ManifoldImpl| {
+        mesh.epsilon = epsilon;
+        assert!(original::edge_op::collapse_edge(mesh, h as usize, &mut vec![], tol, first_new_vert));
+    };
+    // a loop begins the count of moves anew, and there are at most as many as half-edges listed
+    let rows = l.used.halfedges.min(10_000_000) as u64;
+    let moves = 100 + 10 * rows * rows.min(1_000);
+    let mut bare = l.clone();
+    let said = agreed_within(l, moves, |l| reading::collapse_edge(l, h, Shortness { first_new_vert, tol, epsilon }), collapsed);
+    if said.number == 8 {
+        (bare.used.references, bare.used.normals) = (0, 0);
+        if !matches!(reading::run_within(&mut bare, moves, collapsed), Ran::Stopped) {
+            return Said::refused(99); // the original takes it for short: shows as a difference
+        }
+    }
+    said
 }

@@ -224,6 +224,17 @@ fn compare(times: usize, only: Option<usize>, chance: &mut Chance) {
         rooms(table, &nets::bare(&net), 3, chance);
     }
 
+    table.stage("nets on which a collapse forms loops");
+    for _ in 0..(times * 400).max(2) {
+        let mut net = nets::with_loops(chance);
+        nets::add_room(&mut net, 0, 2 * chance.below(9), chance);
+        let which = entry_named("collapse_edge");
+        for asked in (ALL[which].all)(&net, chance) {
+            (ALL[which].lends)(&mut net, chance);
+            table.run(which, &net, &asked);
+        }
+    }
+
     table.stage("damaged nets");
     for net in small.iter().step_by(if times > 1 { 1 } else { 40 }).chain(random.iter().take(times * 20)) {
         nets::damaged(net, chance, &mut |net, chance| table.on_with(net, few, chance));
@@ -271,7 +282,7 @@ fn compare(times: usize, only: Option<usize>, chance: &mut Chance) {
         for mut net in [pieces, narrow, wheel] {
             nets::dress(&mut net, chance);
             nets::add_room(&mut net, 3 * triangles, 3 * triangles, chance);
-            for name in ["dedupe_edge"] {
+            for name in ["dedupe_edge", "collapse_edge"] {
                 table.one(entry_named(name), &net, 2, chance);
             }
         }
@@ -291,7 +302,7 @@ fn rooms(table: &mut Table, net: &Lent, most: usize, chance: &mut Chance) {
     let triangles = ((mesh.halfedge.len() - net.used.halfedges) / 3).clamp(2, 12);
     let vertices = (mesh.vert_pos.len() - net.used.vertices).clamp(2, 12);
     nets::every_room(net, triangles, vertices, chance, &mut |net, chance| {
-        for name in ["dedupe_edge"] {
+        for name in ["dedupe_edge", "collapse_edge"] {
             let which = entry_named(name);
             let mut asks = (ALL[which].all)(net, chance);
             chance.shuffle(&mut asks);

@@ -596,6 +596,112 @@ fn grown(l: &Lent, number: u32) -> Said {
     }
 }
 
+/// What collapse is asked beside the half-edge: module 3's numbers.
+#[derive(Clone, Copy, Debug)]
+pub struct Shortness {
+    pub first_new_vert: i32,
+    pub tol: f64,
+    pub epsilon: f64,
+}
+
+/// Module 3: the squared length and the limit where the edge is long.
+pub fn long(l: &Lent, e: usize, s: Shortness) -> Option<(f64, f64)> {
+    let at = |v: i32| [0, 1, 2].map(|k| f64::from_bits(l.positions[3 * v as usize + k]));
+    let (from, to) = (at(row(l, e).start), at(row(l, e).end));
+    let [x, y, z] = [0, 1, 2].map(|k| to[k] - from[k]);
+    let length = x * x + y * y + z * z;
+    let tol = if s.tol < 0.0 { s.epsilon } else { s.tol };
+    let limit = if row(l, e).end < s.first_new_vert { tol * tol } else { s.epsilon * s.epsilon };
+    // with a NaN it is long
+    if length < limit {
+        None
+    } else {
+        Some((length, limit))
+    }
+}
+
+/// Module 12: "Neighbours of the kept vertex are listed; a shared one forms a loop and cuts the list to its place."
+fn collapsed(l: &mut Lent, e: usize) -> Result<(), Halt> {
+    let rows = l.used.halfedges;
+    let [_, e1, e2] = tri_of(e);
+    let p = partner(l, e).ok_or(Halt::Stopped)?;
+    let [_, p1, p2] = tri_of(p);
+    let (start, kept) = (row(l, e).start, row(l, e).end);
+
+    let mut list = vec![];
+    let mut c = partner(l, e1).ok_or(Halt::Stopped)?;
+    while c != p2 {
+        if list.len() == rows {
+            return Err(Halt::Stopped);
+        }
+        c = next(c);
+        list.push(c);
+        match partner(l, c) {
+            Some(on) => c = on,
+            None => break,
+        }
+    }
+
+    let mut first = partner(l, p1).ok_or(Halt::Stopped)?;
+    l.positions[3 * start as usize..3 * start as usize + 3].fill(0x7FF8_0000_0000_0000);
+    emptied(l, p);
+
+    let face = |l: &Lent, t: usize| l.references[3 * t..3 * t + 3].to_vec();
+    let (mut c, mut moves) = (first, 0);
+    while c != e2 {
+        if moves == rows {
+            return Err(Halt::Stopped);
+        }
+        moves += 1;
+        c = next(c);
+        // "prop_vert follows the edge's face, else the partner's, and only if num_prop > 0 and references exist"
+        if l.used.num_prop > 0 && l.used.references > 0 {
+            let mine = face(l, c / 3);
+            if mine == face(l, e / 3) {
+                l.halfedges[4 * c + 3] = l.halfedges[4 * e1 + 3];
+            } else if mine == face(l, p / 3) {
+                l.halfedges[4 * c + 3] = l.halfedges[4 * p + 3];
+            }
+        }
+        let Some(on) = partner(l, c) else { break };
+        if let Some(k) = list.iter().position(|&g| row(l, g).end == row(l, c).end) {
+            looped(l, list[k], c)?;
+            list.truncate(k);
+            first = on;
+            moves = 0;
+        }
+        c = on;
+    }
+    if !updated(l, kept, first, e2) {
+        return Err(Halt::Stopped);
+    }
+    if row(l, e1).pair >= 0 {
+        emptied(l, e);
+    }
+    if row(l, first).pair >= 0 && row(l, next(first)).pair >= 0 {
+        unfolded(l, first);
+    }
+    Ok(())
+}
+
+/// Module 12, the entry: it says the vertices in use where it is done, the squared length and the limit where the edge is long.
+pub fn collapse_edge(l: &mut Lent, halfedge: i32, s: Shortness) -> Said {
+    let capacity = if misshapen(l) { 0 } else { 3 * triangle_capacity(l) };
+    let fits = spare_fits(l) && l.list.len() >= capacity;
+    if let Some((number, row)) = refused_before(l, fits, &[halfedge], &[]) {
+        return Said::with(number, &[row, 0, 0, 0]);
+    }
+    if let Some((length, limit)) = long(l, halfedge as usize, s) {
+        return Said::with(8, &[0, 0, bits_of(length), bits_of(limit)]);
+    }
+    spare_taken(l);
+    l.list[..capacity].fill(0);
+    match settled(l, |l| collapsed(l, halfedge as usize)) {
+        0 => Said::with(0, &[0, l.used.vertices as u64, 0, 0]),
+        number => Said::with(number, &[0, 0, 0, 0]),
+    }
+}
+
 /// A float as 64 bits; a NaN is always the same.
 pub fn bits_of(x: f64) -> u64 {
     if x.is_nan() {

@@ -46,6 +46,9 @@ fn buffers(which: usize, net: &Lent) -> Vec<(&'static str, Vec<i128>)> {
         "split_pinched_verts" => vec![("work", all(&net.work_words)), ("visit", all(&net.list))],
         "orbit_owners" => vec![("work", all(&net.work_bytes)), ("list", all(&net.list))],
         "form_loop" | "dedupe_edge" => vec![("spare_halfedges", all(&net.spare_halfedges)), ("spare_positions", all(&net.spare_positions))],
+        "collapse_edge" => {
+            vec![("spare_halfedges", all(&net.spare_halfedges)), ("spare_positions", all(&net.spare_positions)), ("list", all(&net.list))]
+        }
         _ => vec![],
     }
 }

@@ -2,10 +2,10 @@
 // did not. Each entry has a struct of its own.
 ghost use mathlib.Core.Path.{_≡_};
 ghost use Rattle.dedupe.specs.DedupeEdge.{dedupeSaid};
-ghost use Rattle.rounds.specs.DedupeEdges.{edgesSaid};
-ghost use Rattle.repairtold.specs.Told.{edge-told, edge-refused, edges-told, edges-refused};
+ghost use Rattle.collapse.specs.CollapseEdge.{collapseSaid};
+ghost use Rattle.repairtold.specs.Told.{edge-told, edge-refused, collapse-told, collapse-refused};
+use collapse::CollapseEdge;
 use dedupe::entry::DedupeEdge;
-use rounds::entry::DedupeEdges;
 
 // How many half-edges and vertices are in use afterwards.
 #[repr(C)]
@@ -16,12 +16,14 @@ pub struct DedupeEdgeAnswer {
     pub vertices: usize,
 }
 
+// How many vertices are in use afterwards; the squared length and the limit are bit patterns.
 #[repr(C)]
-pub struct DedupeEdgesAnswer {
+pub struct CollapseEdgeAnswer {
     pub number: u32,
     pub row: usize,
-    pub halfedges: usize,
     pub vertices: usize,
+    pub squared_length: u64,
+    pub limit: u64,
 }
 
 fn edge_refused(number: u32) -> DedupeEdgeAnswer
@@ -60,36 +62,48 @@ pub fn of_edge(said: DedupeEdge) -> DedupeEdgeAnswer
     }
 }
 
-fn edges_refused(number: u32) -> DedupeEdgesAnswer
-    ensures { λ r. ⌜ r ≡ edges-refused number ⌝ }
+fn collapse_refused(number: u32) -> CollapseEdgeAnswer
+    ensures { λ r. ⌜ r ≡ collapse-refused number ⌝ }
 {
-    DedupeEdgesAnswer {
+    CollapseEdgeAnswer {
         number,
         row: 0,
-        halfedges: 0,
         vertices: 0,
+        squared_length: 0,
+        limit: 0,
     }
 }
 
-pub fn of_edges(said: DedupeEdges) -> DedupeEdgesAnswer
-    ensures { λ r. ⌜ r ≡ edges-told (edgesSaid said) ⌝ }
+pub fn of_collapse(said: CollapseEdge) -> CollapseEdgeAnswer
+    ensures { λ r. ⌜ r ≡ collapse-told (collapseSaid said) ⌝ }
 {
     match said {
-        DedupeEdges::Done(halfedges, vertices) => DedupeEdgesAnswer {
+        CollapseEdge::Done(vertices) => CollapseEdgeAnswer {
             number: 0,
             row: 0,
-            halfedges,
             vertices,
+            squared_length: 0,
+            limit: 0,
         },
-        DedupeEdges::Shape => edges_refused(1),
-        DedupeEdges::ShortBuffer => edges_refused(2),
-        DedupeEdges::Unsound(h) => DedupeEdgesAnswer {
+        CollapseEdge::Shape => collapse_refused(1),
+        CollapseEdge::ShortBuffer => collapse_refused(2),
+        CollapseEdge::Unsound(h) => CollapseEdgeAnswer {
             number: 3,
             row: h.number(),
-            halfedges: 0,
             vertices: 0,
+            squared_length: 0,
+            limit: 0,
         },
-        DedupeEdges::NoRoom => edges_refused(6),
-        DedupeEdges::Stopped => edges_refused(7),
+        CollapseEdge::Number => collapse_refused(4),
+        CollapseEdge::Dead => collapse_refused(5),
+        CollapseEdge::Long(squared_length, limit) => CollapseEdgeAnswer {
+            number: 8,
+            row: 0,
+            vertices: 0,
+            squared_length: floats::bits_of(squared_length),
+            limit: floats::bits_of(limit),
+        },
+        CollapseEdge::NoRoom => collapse_refused(6),
+        CollapseEdge::Stopped => collapse_refused(7),
     }
 }

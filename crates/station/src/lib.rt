@@ -13,8 +13,10 @@ ghost use Rattle.triangles.specs.CollapseTri.{collapseTri};
 ghost use Rattle.folds.specs.RemoveIfFolded.{removeIfFolded};
 ghost use Rattle.loops.specs.FormLoop.{formLoop};
 ghost use Rattle.dedupe.specs.DedupeEdge.{dedupeEdge};
+ghost use Rattle.collapse.specs.CollapseEdge.{collapseEdge, tolerance};
 ghost use Rattle.told.specs.Told.{told, next-told, tri-told, length-told, row-told, counts-of, vector-of, eligible-of};
-ghost use Rattle.station.specs.Left.{and-left, split-left, owners-left, loop-left, edge-left};
+ghost use Rattle.station.specs.Left.{and-left, split-left, owners-left, loop-left, edge-left, collapse-left};
+use repairtold::CollapseEdgeAnswer;
 use repairtold::DedupeEdgeAnswer;
 use told::Answer;
 use told::LengthAnswer;
@@ -290,5 +292,41 @@ pub extern "C" fn spoonferret_dedupe_edge(
         spare_halfedges,
         spare_positions,
         halfedge,
+    ))
+}
+
+#[no_mangle]
+pub extern "C" fn spoonferret_collapse_edge(
+    used: Used,
+    halfedges: &mut [i32],
+    positions: &mut [u64],
+    normals: &[u64],
+    references: &[i32],
+    properties: &[u64],
+    spare_halfedges: &mut [i32],
+    spare_positions: &mut [u64],
+    list: &mut [u32],
+    halfedge: i32,
+    first_new_vert: i32,
+    tol: f64,
+    epsilon: f64,
+) -> CollapseEdgeAnswer
+    ensures { λ r. ⌜ (r, now (halfedges .exit), now (positions .exit), now («spare_halfedges» .exit), now («spare_positions» .exit), now (list .exit))
+        ≡ collapse-left (collapseEdge (counts-of used) (net (now (halfedges .entry)) (now (positions .entry)) (now (normals .entry)) (now (references .entry)) (now (properties .entry))) (now («spare_halfedges» .entry)) (now («spare_positions» .entry)) (now (list .entry)) halfedge (tolerance «first_new_vert» tol epsilon)) ⌝ }
+{
+    repairtold::of_collapse(collapse::collapse_edge(
+        told::counts_of(used),
+        halfedges,
+        positions,
+        normals,
+        references,
+        properties,
+        spare_halfedges,
+        spare_positions,
+        list,
+        halfedge,
+        first_new_vert,
+        tol,
+        epsilon,
     ))
 }

@@ -377,4 +377,60 @@ impl Net {
             Refusal::unless_sound_and_done(told.number, told.row, InUse { halfedges: told.halfedges, vertices: told.vertices })
         })
     }
+
+    /// Takes a short edge out: its two triangles go, its start's position becomes NaN, and what met the start meets the end. Short is what
+    /// [`short_test`](crate::short_test) says of the two positions, the half-edge's end vertex, `first_new_vert`, `tol` and `epsilon`. Where the two vertices
+    /// have another neighbour in common a loop is formed, as by `form_loop`, with two vertices more.
+    ///
+    /// Where the net has no pinched vertex and no duplicate edge it was sound afterwards in every run; of other nets it may not be. So do `cleanup_topology`
+    /// before.
+    ///
+    /// # Errors
+    ///
+    /// `Shape`, `Unsound` with the least row that is not in order, `Number` and `Dead` of the half-edge, `Long` with the squared length and the limit, `NoRoom`
+    /// at the bound of 1,000,000 vertices, and `Stopped` where a walk does not end. The net is as it was.
+    ///
+    /// ```
+    /// use spoonferret::{Halfedge, Net, Refusal, Vec3};
+    /// // two triangles back to back
+    /// let rows = [[0, 1, 3], [1, 2, 5], [2, 0, 4], [1, 0, 0], [0, 2, 2], [2, 1, 1]];
+    /// let mut net = Net {
+    ///     halfedges: rows.iter().map(|r| Halfedge::new(r[0], r[1], r[2], 7)).collect(),
+    ///     positions: vec![Vec3::new(0.0, 0.0, 0.0), Vec3::new(3.0, 4.0, 0.0), Vec3::new(0.0, 9.0, 0.0)],
+    ///     ..Net::default()
+    /// };
+    /// // 25 is not below 25
+    /// assert_eq!(net.collapse_edge(0, 2, 5.0, 0.0), Err(Refusal::Long { squared_length: 25.0, limit: 25.0 }));
+    /// assert_eq!(net.collapse_edge(0, 2, -1.0, 6.0), Ok(()));
+    /// // nothing is left but the props
+    /// assert_eq!(net.halfedges, [Halfedge::new(-1, -1, -1, 7); 6]);
+    /// assert!(net.positions[0].x.is_nan() && !net.positions[1].x.is_nan());
+    /// ```
+    pub fn collapse_edge(&mut self, halfedge: i32, first_new_vert: i32, tol: f64, epsilon: f64) -> Result<(), Refusal> {
+        self.with_room(0, 8, |net, used| {
+            let mut spare = Spare::of(used);
+            let mut list = vec![0u32; net.halfedges.len()];
+            let told = call!(
+                spoonferret_collapse_edge,
+                used,
+                net,
+                as_mut_ptr,
+                as_mut_ptr,
+                spare.halfedges.as_mut_ptr(),
+                spare.halfedges.len(),
+                spare.positions.as_mut_ptr(),
+                spare.positions.len(),
+                list.as_mut_ptr(),
+                list.len(),
+                halfedge,
+                first_new_vert,
+                tol,
+                epsilon
+            );
+            if told.number == 8 {
+                return Err(Refusal::Long { squared_length: f64::from_bits(told.squared_length), limit: f64::from_bits(told.limit) });
+            }
+            Refusal::unless_sound_and_done(told.number, told.row, InUse { halfedges: used.halfedges, vertices: told.vertices })
+        })
+    }
 }

@@ -76,6 +76,15 @@ pub struct DedupeEdgeAnswer {
     pub vertices: usize,
 }
 
+#[repr(C)]
+pub struct CollapseEdgeAnswer {
+    pub number: u32,
+    pub row: usize,
+    pub vertices: usize,
+    pub squared_length: u64,
+    pub limit: u64,
+}
+
 extern "C" {
     pub fn spoonferret_next_halfedge(h: i32) -> NextAnswer;
 
@@ -242,4 +251,28 @@ extern "C" {
         spare_positions_length: usize,
         halfedge: i32,
     ) -> DedupeEdgeAnswer;
+
+    pub fn spoonferret_collapse_edge(
+        used: Used,
+        halfedges: *mut i32,
+        halfedges_length: usize,
+        positions: *mut u64,
+        positions_length: usize,
+        normals: *const u64,
+        normals_length: usize,
+        references: *const i32,
+        references_length: usize,
+        properties: *const u64,
+        properties_length: usize,
+        spare_halfedges: *mut i32,
+        spare_halfedges_length: usize,
+        spare_positions: *mut u64,
+        spare_positions_length: usize,
+        list: *mut u32,
+        list_length: usize,
+        halfedge: i32,
+        first_new_vert: i32,
+        tol: f64,
+        epsilon: f64,
+    ) -> CollapseEdgeAnswer;
 }

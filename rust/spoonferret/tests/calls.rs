@@ -346,6 +346,85 @@ fn dedupe() {
 }
 
 #[test]
+fn collapse_short() {
+    // P, collapse of edge 0: all rows dead, props kept, position 0 NaN
+    let mut net = p();
+    for (h, row) in net.halfedges.iter_mut().enumerate() {
+        row.prop_vert = h as i32;
+    }
+    let before = net.clone();
+    assert_eq!(net.collapse_edge(6, 0, 9.0, 9.0), Err(Refusal::Number));
+    // 1 is not below 1, and the other limit is epsilon's
+    assert_eq!(net.collapse_edge(0, 2, 1.0, 0.0), Err(Refusal::Long { squared_length: 1.0, limit: 1.0 }));
+    assert_eq!(net.collapse_edge(0, 1, 9.0, 0.5), Err(Refusal::Long { squared_length: 1.0, limit: 0.25 }));
+    let Err(Refusal::Long { limit, .. }) = net.collapse_edge(0, 2, f64::NAN, 9.0) else { panic!("a NaN is long") };
+    assert_eq!(limit.to_bits(), 0x7FF8_0000_0000_0000);
+    assert_eq!(net, before);
+    assert_eq!(net.collapse_edge(0, 2, 1.5, 0.0), Ok(()));
+    assert_eq!(net.halfedges, (0..6).map(|h| Halfedge::new(-1, -1, -1, h)).collect::<Vec<_>>());
+    assert_eq!([net.positions[0].x, net.positions[0].y, net.positions[0].z].map(f64::to_bits), [0x7FF8_0000_0000_0000; 3]);
+    assert_eq!(net.positions[1..], before.positions[1..]);
+    assert_eq!(net.collapse_edge(0, 2, 1.5, 0.0), Err(Refusal::Dead));
+
+    // three triangles between two apexes: a loop at vertex 2, and nothing is left
+    let rows = [
+        [0, 1, 3],
+        [1, 3, 8],
+        [3, 0, 13],
+        [1, 0, 0],
+        [0, 4, 17],
+        [4, 1, 10],
+        [1, 2, 9],
+        [2, 3, 14],
+        [3, 1, 1],
+        [2, 1, 6],
+        [1, 4, 5],
+        [4, 2, 16],
+        [2, 0, 15],
+        [0, 3, 2],
+        [3, 2, 7],
+        [0, 2, 12],
+        [2, 4, 11],
+        [4, 0, 4],
+    ];
+    let mut net = Net {
+        halfedges: rows.iter().map(|r| Halfedge::new(r[0], r[1], r[2], -1)).collect(),
+        positions: (0..5).map(|v| Vec3::new(v as f64, 0.0, 0.0)).collect(),
+        ..Net::default()
+    };
+    assert_eq!(net.collapse_edge(0, 9, 100.0, 100.0), Ok(()));
+    assert!(net.halfedges.iter().all(|h| h.paired_halfedge == -1));
+    assert_eq!(net.positions.len(), 7);
+    assert!(net.positions.iter().all(|p| p.x.is_nan()));
+
+    // a walk that does not end
+    let rows = [
+        [0, 1, 3],
+        [1, 2, 5],
+        [2, 0, 6],
+        [1, 0, 0],
+        [0, 2, 9],
+        [2, 1, 1],
+        [0, 2, 2],
+        [2, 1, 11],
+        [1, 0, 10],
+        [2, 0, 4],
+        [0, 1, 8],
+        [1, 2, 7],
+    ];
+    let mut net = Net {
+        halfedges: rows.iter().map(|r| Halfedge::new(r[0], r[1], r[2], -1)).collect(),
+        positions: (0..3).map(|v| Vec3::new(v as f64, 0.0, 0.0)).collect(),
+        ..Net::default()
+    };
+    let before = net.clone();
+    assert_eq!(net.collapse_edge(2, 9, 100.0, 100.0), Err(Refusal::Stopped));
+    assert_eq!(net, before);
+    net.halfedges[0].end_vert = 2;
+    assert_eq!(net.collapse_edge(2, 9, 100.0, 100.0), Err(Refusal::Unsound { row: 0 }));
+}
+
+#[test]
 fn refusals_say_their_number() {
     let all = [
         Refusal::Shape,
