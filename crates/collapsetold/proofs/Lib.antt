@@ -1,2 +1,3 @@
+pub mod Plain
 pub mod Told
 pub mod Cases

@@ -1,0 +1,98 @@
+-- Where no loop is formed the loop about the start carries props along its walk, and leaves all else as it was.
+use mathlib.Core.Path.{_≡_, refl, sym, _∙_}
+use mathlib.Core.Bool.{Bool, true, false, cond, _||_, true≢false}
+use mathlib.Core.List.{List}
+use Prim.Native.Nat.{ℕ, zero, suc, _%_, _<_, _≤_}
+use native.Mathlib.Omega.{arith}
+use borrow.Author.Tests.{lt-leb}
+use lib.Dec.{eqb}
+use lib.IntN.{ℤ}
+use lib.ListN.{length, getD}
+use Rattle.laws.proofs.Tests.{by-test}
+use Rattle.numbers.specs.Numbers.{Named, at, nothing, names, named-or, is-named}
+use Rattle.numbers.specs.Next.{next}
+use Rattle.numbers.proofs.Names.{names-at}
+use Rattle.rows.specs.Halfedges.{startOf, endOf, pairOf}
+use Rattle.rows.specs.Triples.{put-triple}
+use Rattle.net.specs.Counts.{most-vertices}
+use Rattle.net.specs.Sound.{start-vertex, partner, InOrder, Live}
+use Rattle.net.proofs.Sound.{live-row, partner-live}
+use Rattle.steps.specs.Steps.{Middle, begin, refused, with-rows}
+use Rattle.triangles.specs.Triangles.{collapsed, collapse}
+use Rattle.triangles.proofs.Told.{collapse-goes}
+use Rattle.folds.specs.Folds.{nan, most, lose}
+use Rattle.loops.specs.Loops.{loop-at}
+use Rattle.rings.specs.Ring.{Fixed, carried, find, Turned, out, on, formed, turn-at, turn-once, Spun, spun, after, tired, inner, spin}
+use Rattle.collapsing.specs.Collapse.{close, about}
+use Rattle.collapsetold.specs.Plain.{carry, along, meets, Plain, PlainRow}
+
+or-false : (a b : Bool) → a || b ≡ false → (a ≡ false) × (b ≡ false)
+or-false true b e = absurd (true≢false e)
+or-false false b e = (refl, e)
+
+not-named : (w : Named) → is-named w ≡ false → w ≡ nothing
+not-named (at k) e = absurd (true≢false e)
+not-named nothing e = refl
+
+module _ (s : Fixed) (anew : Middle → ℕ → ℕ → Spun) where
+  inner-plain : (n start len c : ℕ) (m : Middle) → refused m ≡ false → meets s len n c (m .halfedges) ≡ false → Plain s n c start m (inner anew s n start len c m)
+  unfolding inner tired meets along turn-once turn-at
+  inner-plain zero start len c m g e =
+      by-test (refused m) (λ t. rw t (record { starts = refl; rows = refl; positions = refl; vertices = refl }))
+      (λ t. rw t (by-test (eqb c (next (next (s .edge)))) (λ u. rw u (record { starts = refl; rows = refl; positions = refl; vertices = refl })) (λ u. rw u (record { starts = refl; rows = refl; positions = refl; vertices = refl }))))
+  inner-plain (suc n) start len c m g e =
+      by-test (eqb c (next (next (s .edge))))
+      (λ u. rw (g, u) (record { starts = refl; rows = rw u; positions = refl; vertices = refl }))
+      (λ u. rw (g, u) (go u (names (pairOf (carry s c (m .halfedges)) (next c)) (s .halfedges)) refl (rw u at e) (λ q d. inner-plain n start len q (with-rows (carry s c (m .halfedges)) m) g d)))
+    where
+      go : eqb c (next (next (s .edge))) ≡ false → (w : Named) → names (pairOf (carry s c (m .halfedges)) (next c)) (s .halfedges) ≡ w →
+          named-or false w (λ q. is-named (find (carry s c (m .halfedges)) (endOf (carry s c (m .halfedges)) (next c)) (s .list) 0 len) || meets s len n q (carry s c (m .halfedges))) ≡ false →
+          ((q : ℕ) → meets s len n q (carry s c (m .halfedges)) ≡ false → Plain s n q start (with-rows (carry s c (m .halfedges)) m) (inner anew s n start len q (with-rows (carry s c (m .halfedges)) m))) →
+          Plain s (suc n) c start m
+          (after start
+          (named-or (out (with-rows (carry s c (m .halfedges)) m)) w (λ q.
+          named-or (on (with-rows (carry s c (m .halfedges)) m) q) (find (carry s c (m .halfedges)) (endOf (carry s c (m .halfedges)) (next c)) (s .list) 0 len) (λ k.
+          formed (loop-at (s .halfedges) (s .capacity) (getD (s .list) k 0) (next c) (with-rows (carry s c (m .halfedges)) m)) q k)))
+          (λ k q. inner anew s n start len q k) anew)
+      go u nothing w d again = record { starts = refl; rows = rw (u, w); positions = refl; vertices = refl }
+      go u (at q) w d again =
+          let o = or-false (is-named (find (carry s c (m .halfedges)) (endOf (carry s c (m .halfedges)) (next c)) (s .list) 0 len)) (meets s len n q (carry s c (m .halfedges))) d in
+          let p = again q (o .1) in
+          rw (not-named (find (carry s c (m .halfedges)) (endOf (carry s c (m .halfedges)) (next c)) (s .list) 0 len) (o .0))
+          (record { starts = p .starts; rows = p .rows ∙ rw (u, w); positions = p .positions; vertices = p .vertices })
+
+pub spin-plain : (s : Fixed) (r n start len c : ℕ) (m : Middle) → refused m ≡ false → meets s len n c (m .halfedges) ≡ false → Plain s n c start m (spin r s n start len c m)
+unfolding spin
+spin-plain s zero n start len c m g e = inner-plain s (λ k q j. spun k q) n start len c m g e
+spin-plain s (suc r) n start len c m g e = inner-plain s (λ k q j. spin r s (s .halfedges) q j q k) n start len c m g e
+
+-- what stays the same in a collapse of e with this list
+abbrev pub around : ℕ → ℕ → Bool → List ℤ → ℕ → ℕ → List ℕ → Fixed
+around H capacity props references e p l = record { halfedges = H; capacity = capacity; props = props; references = references; edge = e; partner = p; list = l }
+
+pub about-plain : (H capacity : ℕ) (props : Bool) (references : List ℤ) (v e p first : ℕ) (l : List ℕ) (m : Middle) →
+    refused (collapse H p (lose e m)) ≡ false →
+    meets (around H capacity props references e p l) (length l) H first (collapse H p (lose e m) .halfedges) ≡ false →
+    PlainRow (around H capacity props references e p l) v first (collapse H p (lose e m)) (about H capacity props references v e p first l m)
+unfolding about close
+about-plain H capacity props references v e p first l m g d =
+    let s = around H capacity props references e p l in
+    let x = spin-plain s (length l) H first (length l) first (collapse H p (lose e m)) g d in
+    record {
+      carrying = spin (length l) s H first (length l) first (collapse H p (lose e m)) .middle;
+      rows = x .rows;
+      positions = x .positions;
+      vertices = x .vertices;
+      is = rw (x .starts);
+    }
+
+-- on rows in order and at a live edge the steps before the loop go on: the start's position is NaN, and the partner's triangle is taken out,
+-- its outer partners joined
+pub begun-told : (H N : ℕ) (R : List ℤ) (P : List ℕ) → H % 3 ≡ 0 → N ≤ most-vertices → ((h : ℕ) → h < H → InOrder H N R h) → (e : ℕ) → Live H R e →
+    collapse H (partner R e) (lose e (begin R P N))
+    ≡ begin (collapsed (partner R e) (partner R (next (partner R e))) (partner R (next (next (partner R e)))) R) (put-triple (start-vertex R e) nan P) N
+unfolding lose
+begun-told H N R P thirds few in-order e l =
+    let r = live-row H N R thirds in-order l in
+    rw (names-at (startOf R e) most (start-vertex R e) (r .start-is) (omega (arith, r .start-in)), lt-leb N (start-vertex R e) (r .start-in))
+    (collapse-goes H N (begin R (put-triple (start-vertex R e) nan P) N) thirds in-order (partner R e) (partner-live H N R thirds in-order l) refl)
