@@ -72,29 +72,43 @@ module _ (H : ℕ) (rows : List ℤ) (home : ℕ) where
     unfolding is-duplicate
     dup-none t e = rw (t, turns-stop n d e)
 
-  -- ---- those of the walk of which a test holds are listed
+  -- ---- what a walk does half-edge by half-edge
+  module _ {S : Type 0} (F : List ℕ → S → S) (n c : ℕ) (s s' : S) (one : (cs : List ℕ) → F cs s' ≡ F (c ∷ cs) s) where
+    pub fold-on : (q : ℕ) → turn-on H rows home n c ≡ at q → F (q ∷ turns H rows home (n - 1) q) s' ≡ F (c ∷ turns H rows home n c) s
+    fold-on q e = ap (λ (cs : List ℕ). F cs s') (sym (turns-go n c q e)) ∙ one (turns H rows home n c)
+
+    pub fold-done : F [] s' ≡ s' → turn-on H rows home n c ≡ nothing → s' ≡ F (c ∷ turns H rows home n c) s
+    fold-done z e = sym z ∙ ap (λ (cs : List ℕ). F cs s') (sym (turns-stop n c e)) ∙ one (turns H rows home n c)
+
+  -- those of which a test holds are listed
   module _ (f : ℕ → Bool) (capacity n c : ℕ) (s s' : Entries) (is : s' ≡ cond (f c) (push capacity c s) s) where
     one : (cs : List ℕ) → push-all capacity (picked f cs) s' ≡ push-all capacity (picked f (c ∷ cs)) s
     unfolding picked push-all
     one cs = by-test (f c) (λ t. rw (is, t)) (λ t. rw (is, t))
 
-    none : s' ≡ push-all capacity (picked f []) s'
+    none : push-all capacity (picked f []) s' ≡ s'
     unfolding picked push-all
     none = refl
 
     pub push-on : (q : ℕ) → turn-on H rows home n c ≡ at q
         → push-all capacity (picked f (q ∷ turns H rows home (n - 1) q)) s' ≡ push-all capacity (picked f (c ∷ turns H rows home n c)) s
-    push-on q e = ap (λ (cs : List ℕ). push-all capacity (picked f cs) s') (sym (turns-go n c q e)) ∙ one (turns H rows home n c)
+    push-on = fold-on (λ cs. push-all capacity (picked f cs)) n c s s' one
 
     pub push-done : turn-on H rows home n c ≡ nothing → s' ≡ push-all capacity (picked f (c ∷ turns H rows home n c)) s
-    push-done e = none ∙ ap (λ (cs : List ℕ). push-all capacity (picked f cs) s') (sym (turns-stop n c e)) ∙ one (turns H rows home n c)
+    push-done = fold-done (λ cs. push-all capacity (picked f cs)) n c s s' one none
 
-  -- ---- the walk is marked
+  -- each is marked
   module _ (n c : ℕ) (work work' : List ℕ) (is : work' ≡ set work c 1) where
-    pub mark-on : (q : ℕ) → turn-on H rows home n c ≡ at q → mark-all (q ∷ turns H rows home (n - 1) q) work' ≡ mark-all (c ∷ turns H rows home n c) work
+    one-marked : (cs : List ℕ) → mark-all cs work' ≡ mark-all (c ∷ cs) work
     unfolding mark-all
-    mark-on q e = rw (turns-go n c q e, is)
+    one-marked cs = rw is
+
+    none-marked : mark-all [] work' ≡ work'
+    unfolding mark-all
+    none-marked = refl
+
+    pub mark-on : (q : ℕ) → turn-on H rows home n c ≡ at q → mark-all (q ∷ turns H rows home (n - 1) q) work' ≡ mark-all (c ∷ turns H rows home n c) work
+    mark-on = fold-on mark-all n c work work' one-marked
 
     pub mark-done : turn-on H rows home n c ≡ nothing → work' ≡ mark-all (c ∷ turns H rows home n c) work
-    unfolding mark-all
-    mark-done e = rw (turns-stop n c e, is)
+    mark-done = fold-done mark-all n c work work' one-marked none-marked

@@ -2,3 +2,4 @@ pub mod Grown
 pub mod Steps
 pub mod Told
 pub mod Settled
+pub mod Cases

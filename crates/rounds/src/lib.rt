@@ -93,7 +93,7 @@ fn round(
             clean: false,
         });
     }
-    let count = duplicates::list_duplicates(
+    let count = tables::list_duplicates(
         rows,
         work,
         list,
