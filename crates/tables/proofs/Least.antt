@@ -184,12 +184,16 @@ module _ (N : ℕ) (rows : List ℤ) where
           let p = dup-tells w c t in
           let k = least-under v w 0 (p .0) (p .1) (alike-ends c (p .0) v e (p .3)) in
           rw (t, y, ne-eqb m (c + 1) (λ z. absurd (omega (arith, z, k .1, p .2)))))
-          (λ t. rw (t, y, eq-eqb m (c + 1) (⊎-elim
-          (λ z. absurd (u .0 z))
-          (λ z. by-test (ltb (z .0) c)
-          (λ b. not-both (is-duplicate N rows w c) (dup-yes w c (z .0) (z .1) (ltb-true (z .0) c b) (ends-are-alike c (z .0) v e (z .2))) t)
-          (λ b. let q = z .3 in omega (arith, q, u .1, ltb-false (z .0) c b)))
-          (least-from v w 0))))
+          (λ t. rw (
+            t,
+            y,
+            eq-eqb m (c + 1) (⊎-elim
+                (λ z. absurd (u .0 z))
+                (λ z. by-test (ltb (z .0) c)
+                (λ b. not-both (is-duplicate N rows w c) (dup-yes w c (z .0) (z .1) (ltb-true (z .0) c b) (ends-are-alike c (z .0) v e (z .2))) t)
+                (λ b. let q = z .3 in omega (arith, q, u .1, ltb-false (z .0) c b)))
+                (least-from v w 0)),
+          ))
 
 -- those of which two tests hold that agree on a list; and of which none does
 pub picked-same : (f g : ℕ → Bool) (cs : List ℕ) → ((c : ℕ) → is-in c cs ≡ true → f c ≡ g c) → picked f cs ≡ picked g cs

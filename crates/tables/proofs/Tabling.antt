@@ -86,8 +86,8 @@ module _ (H N capacity : ℕ) (rows : List ℤ) (few : H ≤ most-halfedges) (in
     at-entry (at u) f v =
         let m : u < length (see c (t .work)) = omega (arith, f u refl, long) in
         elim (ℕ-discrete v u) [
-        | yes e ↦ rw (e, eq-eqb u u refl) (place-entry (see c (t .work)) u (lesser (entry (see c (t .work)) u) c) m (small u) ∙ ap (λ (x : ℕ). lesser x c) (low u))
-        | no q ↦ rw (ne-eqb u v (λ z. q (sym z))) (ap (λ (x : ℕ). x % walked-bit) (place-other (see c (t .work)) u (lesser (entry (see c (t .work)) u) c) v q) ∙ low v)
+          | yes e ↦ rw (e, eq-eqb u u refl) (place-entry (see c (t .work)) u (lesser (entry (see c (t .work)) u) c) m (small u) ∙ ap (λ (x : ℕ). lesser x c) (low u))
+          | no q ↦ rw (ne-eqb u v (λ z. q (sym z))) (ap (λ (x : ℕ). x % walked-bit) (place-other (see c (t .work)) u (lesser (entry (see c (t .work)) u) c) v q) ∙ low v)
         ]
 
     pub enter-entry : (v : ℕ) → entry (enter N rows c t .work) v ≡ lowered N rows v (entry (t .work) v) c end

@@ -197,7 +197,17 @@ fn table_row(
         return count;
     }
     let twice = enter_fan(rows, work, halfedges, vertices, h);
-    let n = push_if_twice(rows, work, list, halfedges, vertices, capacity, count, twice, h);
+    let n = push_if_twice(
+        rows,
+        work,
+        list,
+        halfedges,
+        vertices,
+        capacity,
+        count,
+        twice,
+        h,
+    );
     clear_fan(rows, work, halfedges, vertices, h);
     n
 }
