@@ -2,7 +2,7 @@
 use mathlib.Core.Path.{_≡_, refl, sym, _∙_}
 use mathlib.Core.Bool.{Bool, true, false, cond, _||_, true≢false}
 use mathlib.Core.List.{List}
-use Prim.Native.Nat.{ℕ, zero, suc, _%_, _<_, _≤_}
+use Prim.Native.Nat.{ℕ, zero, suc, _%_, _/_, _<_, _≤_}
 use native.Mathlib.Omega.{arith}
 use borrow.Author.Tests.{lt-leb}
 use lib.Dec.{eqb}
@@ -12,8 +12,9 @@ use Rattle.laws.proofs.Tests.{by-test}
 use Rattle.numbers.specs.Numbers.{Named, at, nothing, names, named-or, is-named}
 use Rattle.numbers.specs.Next.{next}
 use Rattle.numbers.proofs.Names.{names-at}
-use Rattle.rows.specs.Halfedges.{startOf, endOf, pairOf}
-use Rattle.rows.specs.Triples.{put-triple}
+use Rattle.rows.specs.Halfedges.{Column, prop, offset, column, startOf, endOf, pairOf, propOf}
+use Rattle.rows.proofs.Columns.{other-column}
+use Rattle.rows.specs.Triples.{put-triple, reference, same-face}
 use Rattle.net.specs.Counts.{most-vertices}
 use Rattle.net.specs.Sound.{start-vertex, partner, InOrder, Live}
 use Rattle.net.proofs.Sound.{live-row, partner-live}
@@ -96,3 +97,22 @@ begun-told H N R P thirds few in-order e l =
     let r = live-row H N R thirds in-order l in
     rw (names-at (startOf R e) most (start-vertex R e) (r .start-is) (omega (arith, r .start-in)), lt-leb N (start-vertex R e) (r .start-in))
     (collapse-goes H N (begin R (put-triple (start-vertex R e) nan P) N) thirds in-order (partner R e) (partner-live H N R thirds in-order l) refl)
+
+-- the walk writes no number but props: every start, end and pair is as it was
+carried-other : (d : Column) → (offset d ≡ offset prop → ⊥) → (props : Bool) (references : List ℤ) (e p h g : ℕ) (l : List ℤ) → column d (carried props references e p h l) g ≡ column d l g
+unfolding carried
+carried-other d o false references e p h g l = refl
+carried-other d o true references e p h g l =
+    by-test (same-face (reference references (h / 3)) (reference references (e / 3)))
+    (λ t. rw t (other-column d prop h g (propOf l (next e)) l o))
+    (λ t. rw t (by-test (same-face (reference references (h / 3)) (reference references (p / 3))) (λ u. rw u (other-column d prop h g (propOf l p) l o)) (λ u. rw u)))
+
+pub along-other : (s : Fixed) (d : Column) → (offset d ≡ offset prop → ⊥) → (n c : ℕ) (l : List ℤ) (g : ℕ) → column d (along s n c l) g ≡ column d l g
+unfolding along
+along-other s d o zero c l g = refl
+along-other s d o (suc n) c l g =
+    by-test (eqb c (next (next (s .edge)))) (λ t. rw t) (λ t. rw t (go (names (pairOf (carry s c l) (next c)) (s .halfedges)) (λ q. along-other s d o n q (carry s c l) g)))
+  where
+    go : (w : Named) → ((q : ℕ) → column d (along s n q (carry s c l)) g ≡ column d (carry s c l) g) → column d (named-or (carry s c l) w (λ q. along s n q (carry s c l))) g ≡ column d l g
+    go nothing again = carried-other d o (s .props) (s .references) (s .edge) (s .partner) (next c) g l
+    go (at q) again = again q ∙ carried-other d o (s .props) (s .references) (s .edge) (s .partner) (next c) g l
