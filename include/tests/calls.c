@@ -394,6 +394,37 @@ static void dedupe_one(void) {
     EXPECT(spoonferret_check_net(ROOMY).number == 0);
 }
 
+static void dedupe_all(void) {
+    const uint32_t filled = 0x55555555;
+    /* the half-edge capacity is 18: work and list need so much */
+    lent_net n = roomy(2, 1);
+    EXPECT(spoonferret_dedupe_edges(ROOMY, SPARES, n.work, 17, n.list, 26).number == 2);
+    EXPECT(spoonferret_dedupe_edges(ROOMY, SPARES, n.work, 30, n.list, 17).number == 2);
+    EXPECT(spoonferret_dedupe_edges(ROOMY, n.spare_rows, 47, n.spare_positions, 17, n.work, 30, n.list, 26).number == 2);
+    EXPECT(put_back(&n, 0, 0) && spares_hold(&n, 0) && words(n.work, 30, filled) && words(n.list, 26, filled));
+    spoonferret_dedupe_edges_answer told = spoonferret_dedupe_edges(ROOMY, SPARES, n.work, 30, n.list, 26);
+    EXPECT(told.number == 0 && told.row == 0 && told.halfedges == 18 && told.vertices == 5);
+    EXPECT(memcmp(n.rows, apart, sizeof apart) == 0 && spares_hold(&n, 1));
+    EXPECT(words(n.work, 18, 0) && words(n.work + 18, 12, filled) && words(n.list, 18, 0) && words(n.list + 18, 8, filled));
+
+    /* with room for one triangle the capacity is 15 */
+    n = roomy(1, 3);
+    told = spoonferret_dedupe_edges(ROOMY, SPARES, n.work, 15, n.list, 15);
+    EXPECT(told.number == 6 && told.halfedges == 0 && told.vertices == 0 && put_back(&n, 1, 1) && spares_hold(&n, 1));
+    EXPECT(words(n.work, 15, 0) && words(n.work + 15, 15, filled) && words(n.list, 15, 0) && words(n.list + 15, 11, filled));
+
+    /* no net at all, and nothing to do */
+    n = roomy(2, 1);
+    n.used = (spoonferret_used){0};
+    n.lent_rows = n.lent_positions = n.lent_faces = 0;
+    told = spoonferret_dedupe_edges(ROOMY, n.spare_rows, 0, n.spare_positions, 0, n.work, 0, n.list, 0);
+    EXPECT(told.number == 0 && told.halfedges == 0 && told.vertices == 0);
+    n = roomy(2, 1);
+    n.rows[9] = 3;
+    told = spoonferret_dedupe_edges(ROOMY, SPARES, n.work, 30, n.list, 26);
+    EXPECT(told.number == 3 && told.row == 2 && words(n.work, 30, filled));
+}
+
 static void collapse(void) {
     const uint32_t filled = 0x55555555;
     /* P: the edge from (0, 0, 0) to (1, 0, 0) */
@@ -473,6 +504,7 @@ int main(void) {
     owners();
     split();
     dedupe_one();
+    dedupe_all();
     collapse();
     printf("%d passed, %d failed\n", passed, failed);
     return failed != 0;

@@ -83,6 +83,7 @@ pub const ALL: &[Entry] = &[
     Entry { name: "remove_if_folded", on_nets: true, fields: &[Plain("row")], ours: fold_ours, owed: fold_owed, asks: halfedge_asks, all: each_halfedge, lends: no_buffers },
     Entry { name: "form_loop", on_nets: true, fields: &[Plain("row"), Plain("vertices")], ours: loop_ours, owed: loop_owed, asks: loop_asks, all: each_pair, lends: loop_lends },
     Entry { name: "dedupe_edge", on_nets: true, fields: GROWN, ours: dedupe_ours, owed: dedupe_owed, asks: halfedge_asks, all: each_halfedge, lends: loop_lends },
+    Entry { name: "dedupe_edges", on_nets: true, fields: GROWN, ours: rounds_ours, owed: rounds_owed, asks: three_times, all: nothing_asked, lends: rounds_lends },
     Entry {
         name: "collapse_edge",
         on_nets: true,
@@ -661,7 +662,15 @@ fn loop_owed(l: &mut Lent, a: &Asked) -> Said {
     agreed(l, |l| reading::form_loop(l, first, second), |mesh| original::edge_op::form_loop(mesh, first as usize, second as usize))
 }
 
-// dedupe_edge: on a sound net the Rust is always done, so its moves need no limit
+// dedupe_edge, dedupe_edges: on a sound net the Rust is always done, so its moves need no limit
+
+/// Writes back what a call between guards left in the spares, the work buffer and the list.
+fn buffers_back(l: &mut Lent, saved: Guarded<i32>, held: Guarded<u64>, work: Guarded<u32>, list: Guarded<u32>) -> Result<(), String> {
+    saved.back("spare half-edges", &mut l.spare_halfedges)?;
+    held.back("spare positions", &mut l.spare_positions)?;
+    work.back("work buffer", &mut l.work_words)?;
+    list.back("list", &mut l.list)
+}
 
 /// What a call that appends triangles and vertices tells, with the counts that it leaves.
 fn grown(l: &mut Lent, number: u32, row: usize, halfedges: usize, vertices: usize) -> Said {
@@ -706,6 +715,42 @@ fn lent_together(l: &mut Lent, work: usize, list: usize, chance: &mut Chance) {
     l.list = filled(3).iter().map(|&b| b as u32).collect();
 }
 
+fn rounds_lends(l: &mut Lent, chance: &mut Chance) {
+    let capacity = halfedge_capacity(l);
+    lent_together(l, capacity, capacity, chance);
+}
+
+/// The entries that take the spares, a work buffer and a list, and no number.
+macro_rules! on_the_whole {
+    ($ours:ident, $entry:ident) => {
+        fn $ours(l: &mut Lent, _: &Asked) -> Result<Said, String> {
+            let mut g = GuardedNet::of(l);
+            let (mut saved, mut held) = (Guarded::new(&l.spare_halfedges), Guarded::new(&l.spare_positions));
+            let (mut work, mut list) = (Guarded::new(&l.work_words), Guarded::new(&l.list));
+            let told = call!(
+                $entry,
+                g,
+                saved.at(),
+                saved.length(),
+                held.at(),
+                held.length(),
+                work.at(),
+                work.length(),
+                list.at(),
+                list.length()
+            );
+            g.back(l)?;
+            buffers_back(l, saved, held, work, list)?;
+            Ok(grown(l, told.number, told.row, told.halfedges, told.vertices))
+        }
+    };
+}
+
+on_the_whole!(rounds_ours, spoonferret_dedupe_edges);
+
+fn rounds_owed(l: &mut Lent, _: &Asked) -> Said {
+    agreed_within(l, u64::MAX, reading::dedupe_edges, original::edge_op::dedupe_edges)
+}
 
 // collapse_edge: the short arm; the Rust takes epsilon from its mesh, and with no references its long arm panics
 

@@ -282,7 +282,7 @@ fn compare(times: usize, only: Option<usize>, chance: &mut Chance) {
         for mut net in [pieces, narrow, wheel] {
             nets::dress(&mut net, chance);
             nets::add_room(&mut net, 3 * triangles, 3 * triangles, chance);
-            for name in ["dedupe_edge", "collapse_edge"] {
+            for name in ["dedupe_edge", "dedupe_edges", "collapse_edge"] {
                 table.one(entry_named(name), &net, 2, chance);
             }
         }
@@ -302,7 +302,7 @@ fn rooms(table: &mut Table, net: &Lent, most: usize, chance: &mut Chance) {
     let triangles = ((mesh.halfedge.len() - net.used.halfedges) / 3).clamp(2, 12);
     let vertices = (mesh.vert_pos.len() - net.used.vertices).clamp(2, 12);
     nets::every_room(net, triangles, vertices, chance, &mut |net, chance| {
-        for name in ["dedupe_edge", "collapse_edge"] {
+        for name in ["dedupe_edge", "dedupe_edges", "collapse_edge"] {
             let which = entry_named(name);
             let mut asks = (ALL[which].all)(net, chance);
             chance.shuffle(&mut asks);
@@ -326,6 +326,18 @@ fn pinched_with(vertices: usize, lent: usize) -> Lent {
 
 /// Arrays as long as the bounds and a row longer, counts at and beside them; every entry on each, or one by turns.
 fn bounds(table: &mut Table, every: bool, chance: &mut Chance) {
+    // an edge that is there twice, and dead triangles up to the bound or a few below it
+    for triangles in [999_998, 999_999, 1_000_000] {
+        let starts = [0, 1, 2, 1, 0, 2, 1, 0, 3, 0, 1, 3];
+        let pairs = [6, 5, 4, 9, 2, 1, 0, 11, 10, 3, 8, 7];
+        let mut net = nets::net_of(&starts, &pairs, 4);
+        net.halfedges.resize(4 * 3_000_003, -1);
+        net.used.halfedges = 3 * triangles;
+        net.positions.resize(3 * 8, 5);
+        for name in ["dedupe_edges"] {
+            table.one(entry_named(name), &net, 1, chance);
+        }
+    }
     let entries: Vec<usize> = (0..ALL.len()).filter(|&i| ALL[i].on_nets).collect();
     let mut turn = 0;
     let mut on = |net: &Lent, chance: &mut Chance| {

@@ -596,6 +596,64 @@ fn grown(l: &Lent, number: u32) -> Said {
     }
 }
 
+/// Fan by fan, rising, each from its least half-edge on: those of which a smaller one of the fan ends at the same vertex.
+fn duplicates(l: &Lent) -> Result<Vec<usize>, Halt> {
+    let mut seen = vec![false; l.used.halfedges];
+    let mut list = vec![];
+    for h in 0..l.used.halfedges {
+        if seen[h] || row(l, h).pair < 0 {
+            continue;
+        }
+        let fan = fan(l, h)?;
+        let mut least = std::collections::HashMap::new();
+        for &c in &fan {
+            seen[c] = true;
+            let least = least.entry(row(l, c).end).or_insert(c);
+            *least = c.min(*least);
+        }
+        list.extend(fan.iter().filter(|&&c| least[&row(l, c).end] != c));
+    }
+    Ok(list)
+}
+
+/// Module 11, dedupe_edges: "At most as many rounds as half-edges at entry", each over the duplicates listed at its beginning that are so still.
+fn deduped_all(l: &mut Lent, capacity: usize) -> Result<(), Halt> {
+    for _ in 0..l.used.halfedges {
+        let list = duplicates(l)?;
+        if list.is_empty() {
+            return Ok(());
+        }
+        for d in list {
+            let end = row(l, d).end;
+            if fan(l, d)?[1..].iter().any(|&c| row(l, c).end == end) {
+                deduped(l, capacity, d)?;
+            }
+        }
+    }
+    Ok(())
+}
+
+/// Modules 11 and 13, the entries: "work buffers (at entry: .. dedupe_edges the half-edge capacity, cleanup that and V)", the list "of the half-edge capacity"; they
+/// "read zero over that length" past the checks.
+fn rounds_after(l: &mut Lent, first: fn(&mut Lent) -> Result<(), Halt>, work: usize) -> Said {
+    // counts that no net can have are answer 1 before any length is asked for
+    let capacity = if misshapen(l) { 0 } else { 3 * triangle_capacity(l) };
+    let work = capacity.saturating_add(work);
+    let fits = spare_fits(l) && l.work_words.len() >= work && l.list.len() >= capacity;
+    if let Some((number, row)) = refused_before(l, fits, &[], &[]) {
+        return Said::with(number, &[row, 0, 0]);
+    }
+    spare_taken(l);
+    l.work_words[..work].fill(0);
+    l.list[..capacity].fill(0);
+    let number = settled(l, |l| first(l).and_then(|()| deduped_all(l, capacity)));
+    grown(l, number)
+}
+
+pub fn dedupe_edges(l: &mut Lent) -> Said {
+    rounds_after(l, |_| Ok(()), 0)
+}
+
 /// What collapse is asked beside the half-edge: module 3's numbers.
 #[derive(Clone, Copy, Debug)]
 pub struct Shortness {

@@ -46,6 +46,12 @@ fn buffers(which: usize, net: &Lent) -> Vec<(&'static str, Vec<i128>)> {
         "split_pinched_verts" => vec![("work", all(&net.work_words)), ("visit", all(&net.list))],
         "orbit_owners" => vec![("work", all(&net.work_bytes)), ("list", all(&net.list))],
         "form_loop" | "dedupe_edge" => vec![("spare_halfedges", all(&net.spare_halfedges)), ("spare_positions", all(&net.spare_positions))],
+        "dedupe_edges" | "cleanup_topology" => vec![
+            ("spare_halfedges", all(&net.spare_halfedges)),
+            ("spare_positions", all(&net.spare_positions)),
+            ("work", all(&net.work_words)),
+            ("list", all(&net.list)),
+        ],
         "collapse_edge" => {
             vec![("spare_halfedges", all(&net.spare_halfedges)), ("spare_positions", all(&net.spare_positions)), ("list", all(&net.list))]
         }
@@ -203,7 +209,7 @@ fn head(name: &str) -> String {
     if name == "split_pinched_verts" {
         out += "Open fan is not among the answers: it cannot be given once the net is sound.\n";
     }
-    if ["dedupe_edge"].contains(&name) {
+    if ["dedupe_edge", "dedupe_edges"].contains(&name) {
         out += "Stopped is not among the answers: it cannot be given once the net is sound.\n";
     }
     out

@@ -4,6 +4,7 @@ use Prim.Native.Nat.{ℕ}
 use Rattle.answers.specs.Answers.{Said, value}
 use Rattle.told.specs.Told.{bits, count-on}
 use Rattle.repairtold.specs.declared.DedupeEdgeAnswer.{DedupeEdgeAnswer}
+use Rattle.repairtold.specs.declared.DedupeEdgesAnswer.{DedupeEdgesAnswer}
 use Rattle.repairtold.specs.declared.CollapseEdgeAnswer.{CollapseEdgeAnswer}
 
 abbrev pub edge-told : Said → DedupeEdgeAnswer
@@ -11,6 +12,12 @@ edge-told s = record { number = s .number; row = count-on 3 s 0; halfedges = cou
 
 abbrev pub edge-refused : ℕ → DedupeEdgeAnswer
 edge-refused number = record { number = number; row = 0; halfedges = 0; vertices = 0 }
+
+abbrev pub edges-told : Said → DedupeEdgesAnswer
+edges-told s = record { number = s .number; row = count-on 3 s 0; halfedges = count-on 0 s 0; vertices = count-on 0 s 1 }
+
+abbrev pub edges-refused : ℕ → DedupeEdgesAnswer
+edges-refused number = record { number = number; row = 0; halfedges = 0; vertices = 0 }
 
 abbrev pub collapse-told : Said → CollapseEdgeAnswer
 collapse-told s =

@@ -2,14 +2,24 @@
 // did not. Each entry has a struct of its own.
 ghost use mathlib.Core.Path.{_≡_};
 ghost use Rattle.dedupe.specs.DedupeEdge.{dedupeSaid};
+ghost use Rattle.rounds.specs.DedupeEdges.{edgesSaid};
 ghost use Rattle.collapse.specs.CollapseEdge.{collapseSaid};
-ghost use Rattle.repairtold.specs.Told.{edge-told, edge-refused, collapse-told, collapse-refused};
+ghost use Rattle.repairtold.specs.Told.{edge-told, edge-refused, edges-told, edges-refused, collapse-told, collapse-refused};
 use collapse::CollapseEdge;
 use dedupe::entry::DedupeEdge;
+use rounds::entry::DedupeEdges;
 
 // How many half-edges and vertices are in use afterwards.
 #[repr(C)]
 pub struct DedupeEdgeAnswer {
+    pub number: u32,
+    pub row: usize,
+    pub halfedges: usize,
+    pub vertices: usize,
+}
+
+#[repr(C)]
+pub struct DedupeEdgesAnswer {
     pub number: u32,
     pub row: usize,
     pub halfedges: usize,
@@ -59,6 +69,40 @@ pub fn of_edge(said: DedupeEdge) -> DedupeEdgeAnswer
         DedupeEdge::Dead => edge_refused(5),
         DedupeEdge::NoRoom => edge_refused(6),
         DedupeEdge::Stopped => edge_refused(7),
+    }
+}
+
+fn edges_refused(number: u32) -> DedupeEdgesAnswer
+    ensures { λ r. ⌜ r ≡ edges-refused number ⌝ }
+{
+    DedupeEdgesAnswer {
+        number,
+        row: 0,
+        halfedges: 0,
+        vertices: 0,
+    }
+}
+
+pub fn of_edges(said: DedupeEdges) -> DedupeEdgesAnswer
+    ensures { λ r. ⌜ r ≡ edges-told (edgesSaid said) ⌝ }
+{
+    match said {
+        DedupeEdges::Done(halfedges, vertices) => DedupeEdgesAnswer {
+            number: 0,
+            row: 0,
+            halfedges,
+            vertices,
+        },
+        DedupeEdges::Shape => edges_refused(1),
+        DedupeEdges::ShortBuffer => edges_refused(2),
+        DedupeEdges::Unsound(h) => DedupeEdgesAnswer {
+            number: 3,
+            row: h.number(),
+            halfedges: 0,
+            vertices: 0,
+        },
+        DedupeEdges::NoRoom => edges_refused(6),
+        DedupeEdges::Stopped => edges_refused(7),
     }
 }
 

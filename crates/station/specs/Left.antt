@@ -9,11 +9,13 @@ use Rattle.told.specs.declared.LoopAnswer.{LoopAnswer}
 use Rattle.told.specs.Told.{split-told, owners-told, loop-told}
 use Rattle.repairtold.specs.declared.DedupeEdgeAnswer.{DedupeEdgeAnswer}
 use Rattle.repairtold.specs.declared.CollapseEdgeAnswer.{CollapseEdgeAnswer}
-use Rattle.repairtold.specs.Told.{edge-told, collapse-told}
+use Rattle.repairtold.specs.declared.DedupeEdgesAnswer.{DedupeEdgesAnswer}
+use Rattle.repairtold.specs.Told.{edge-told, edges-told, collapse-told}
 use Rattle.owners.specs.Scan as owners
 use Rattle.loops.specs.FormLoop.{Left}
 use Rattle.splitting.specs.Split.{Outcome}
 use Rattle.dedupe.specs.DedupeEdge as edge
+use Rattle.rounds.specs.DedupeEdges as edges
 use Rattle.collapse.specs.CollapseEdge as collapse
 
 -- of an entry whose model is what is said and what is left
@@ -31,6 +33,9 @@ loop-left o = (loop-told (o .said), o .halfedges, o .positions, o .saved, o .hel
 
 abbrev pub edge-left : edge.Left → DedupeEdgeAnswer × List ℤ × List ℕ × List ℕ × List ℤ × List ℤ × List ℕ
 edge-left o = (edge-told (o .said), o .halfedges, o .positions, o .normals, o .references, o .saved, o .held)
+
+abbrev pub edges-left : edges.Left → DedupeEdgesAnswer × List ℤ × List ℕ × List ℕ × List ℤ × List ℤ × List ℕ × List ℕ × List ℕ
+edges-left o = (edges-told (o .said), o .halfedges, o .positions, o .normals, o .references, o .saved, o .held, o .work, o .list)
 
 abbrev pub collapse-left : collapse.Left → CollapseEdgeAnswer × List ℤ × List ℕ × List ℤ × List ℕ × List ℕ
 collapse-left o = (collapse-told (o .said), o .halfedges, o .positions, o .saved, o .held, o .list)

@@ -378,12 +378,65 @@ impl Net {
         })
     }
 
+    /// Takes the duplicate edges of a net apart, in rounds: each lists the half-edges of which a smaller one of the same fan ends at the same vertex, and does
+    /// `dedupe_edge` at each that is so still. It ends with a round that lists none, or after as many rounds as there were half-edges. The net is sound
+    /// afterwards. A net with pinched vertices wants `split_pinched_verts` before: a corner of it can move here.
+    ///
+    /// # Errors
+    ///
+    /// `Shape`, `Unsound` with the least row that is not in order, and `NoRoom` at the bounds of 1,000,000 triangles and vertices. The net is as it was.
+    /// (`Stopped` is never given on a sound net.)
+    ///
+    /// ```
+    /// use spoonferret::{Halfedge, Net, Vec3};
+    /// // the edge from 0 to 1 is there twice: half-edges 0 and 9
+    /// let rows = [
+    ///     [0, 1, 6], [1, 2, 5], [2, 0, 4], [1, 0, 9], [0, 2, 2], [2, 1, 1],
+    ///     [1, 0, 0], [0, 3, 11], [3, 1, 10], [0, 1, 3], [1, 3, 8], [3, 0, 7],
+    /// ];
+    /// let mut net = Net {
+    ///     halfedges: rows.iter().map(|r| Halfedge::new(r[0], r[1], r[2], -1)).collect(),
+    ///     positions: (0..4).map(|i| Vec3::new(i as f64, 0.0, 0.0)).collect(),
+    ///     ..Net::default()
+    /// };
+    /// assert_eq!(net.dedupe_edges(), Ok(()));
+    /// assert_eq!((net.halfedges.len(), net.positions.len()), (18, 5));
+    /// // nothing is left to do
+    /// let before = net.clone();
+    /// assert_eq!(net.dedupe_edges(), Ok(()));
+    /// assert_eq!(net, before);
+    /// assert_eq!(Net::default().dedupe_edges(), Ok(()));
+    /// ```
+    pub fn dedupe_edges(&mut self) -> Result<(), Refusal> {
+        let triangles = self.halfedges.len() / 3;
+        self.with_room(triangles, triangles, |net, used| {
+            let mut spare = Spare::of(used);
+            let mut work = vec![0u32; net.halfedges.len()];
+            let mut list = vec![0u32; net.halfedges.len()];
+            let told = call!(
+                spoonferret_dedupe_edges,
+                used,
+                net,
+                (as_mut_ptr, as_mut_ptr, as_mut_ptr),
+                spare.halfedges.as_mut_ptr(),
+                spare.halfedges.len(),
+                spare.positions.as_mut_ptr(),
+                spare.positions.len(),
+                work.as_mut_ptr(),
+                work.len(),
+                list.as_mut_ptr(),
+                list.len()
+            );
+            Refusal::unless_sound_and_done(told.number, told.row, InUse { halfedges: told.halfedges, vertices: told.vertices })
+        })
+    }
+
     /// Takes a short edge out: its two triangles go, its start's position becomes NaN, and what met the start meets the end. Short is what
     /// [`short_test`](crate::short_test) says of the two positions, the half-edge's end vertex, `first_new_vert`, `tol` and `epsilon`. Where the two vertices
     /// have another neighbour in common a loop is formed, as by `form_loop`, with two vertices more.
     ///
-    /// Where the net has no pinched vertex and no duplicate edge it was sound afterwards in every run; of other nets it may not be. So do `cleanup_topology`
-    /// before.
+    /// Where the net has no pinched vertex and no duplicate edge it was sound afterwards in every run; of other nets it may not be. So do `split_pinched_verts`
+    /// and `dedupe_edges` before.
     ///
     /// # Errors
     ///

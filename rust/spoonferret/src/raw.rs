@@ -77,6 +77,14 @@ pub struct DedupeEdgeAnswer {
 }
 
 #[repr(C)]
+pub struct DedupeEdgesAnswer {
+    pub number: u32,
+    pub row: usize,
+    pub halfedges: usize,
+    pub vertices: usize,
+}
+
+#[repr(C)]
 pub struct CollapseEdgeAnswer {
     pub number: u32,
     pub row: usize,
@@ -251,6 +259,28 @@ extern "C" {
         spare_positions_length: usize,
         halfedge: i32,
     ) -> DedupeEdgeAnswer;
+
+    pub fn spoonferret_dedupe_edges(
+        used: Used,
+        halfedges: *mut i32,
+        halfedges_length: usize,
+        positions: *mut u64,
+        positions_length: usize,
+        normals: *mut u64,
+        normals_length: usize,
+        references: *mut i32,
+        references_length: usize,
+        properties: *const u64,
+        properties_length: usize,
+        spare_halfedges: *mut i32,
+        spare_halfedges_length: usize,
+        spare_positions: *mut u64,
+        spare_positions_length: usize,
+        work: *mut u32,
+        work_length: usize,
+        list: *mut u32,
+        list_length: usize,
+    ) -> DedupeEdgesAnswer;
 
     pub fn spoonferret_collapse_edge(
         used: Used,

@@ -346,6 +346,47 @@ fn dedupe() {
 }
 
 #[test]
+fn dedupe_all() {
+    let mut net = pillows();
+    assert_eq!(net.dedupe_edges(), Ok(()));
+    assert_eq!(plain(&net), APART);
+    assert_eq!(Net::default().dedupe_edges(), Ok(()));
+
+    // a torus of two by two: every edge is there twice
+    let at = |i: usize, j: usize| ((i % 2) * 2 + j % 2) as i32;
+    let mut starts = vec![];
+    for (i, j) in [(0, 0), (0, 1), (1, 0), (1, 1)] {
+        starts.extend([at(i, j), at(i + 1, j), at(i + 1, j + 1), at(i, j), at(i + 1, j + 1), at(i, j + 1)]);
+    }
+    let ends = |h: usize| (starts[h], starts[h / 3 * 3 + (h + 1) % 3]);
+    let mut pairs = vec![-1; 24];
+    for h in 0..24 {
+        if pairs[h] < 0 {
+            let g = (0..24).find(|&g| pairs[g] < 0 && ends(g) == (ends(h).1, ends(h).0)).expect("a row the other way");
+            (pairs[h], pairs[g]) = (g as i32, h as i32);
+        }
+    }
+    let mut net = Net {
+        halfedges: (0..24).map(|h| Halfedge::new(ends(h).0, ends(h).1, pairs[h], -1)).collect(),
+        positions: vec![Vec3::default(); 4],
+        ..Net::default()
+    };
+    assert_eq!(net.check(), Ok(()));
+    assert_eq!(net.dedupe_edges(), Ok(()));
+    assert_eq!(net.check(), Ok(()));
+    let before = net.clone();
+    assert_eq!(net.dedupe_edges(), Ok(()));
+    assert_eq!(net, before);
+
+    // the bounds leave no room
+    let mut net = pillows();
+    net.positions.resize(1_000_000, Vec3::default());
+    let before = net.clone();
+    assert_eq!(net.dedupe_edges(), Err(Refusal::NoRoom));
+    assert!(same(&net, &before));
+}
+
+#[test]
 fn collapse_short() {
     // P, collapse of edge 0: all rows dead, props kept, position 0 NaN
     let mut net = p();
