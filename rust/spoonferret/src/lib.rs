@@ -22,14 +22,23 @@
 //! assert_eq!(refusal.to_string(), "unsound (3): row 2 is the least row that is not in order");
 //! ```
 
+#[macro_use]
+mod lending;
+pub mod edge_op;
+mod layout;
 mod net;
+mod net_mut;
 pub mod raw;
 mod refusal;
 mod rows;
+mod workspace;
 
+pub use layout::{HalfedgeRow, Layout, Own};
 pub use net::{Eligible, Net};
+pub use net_mut::{NetMut, Split};
 pub use refusal::Refusal;
 pub use rows::{Halfedge, Reference, Vec3};
+pub use workspace::{release_kept, Workspace};
 
 /// The next half-edge of its triangle: `h + 1`, or `h - 2` where `h + 1` divides by 3. It is wanted on every `i32` but two.
 ///
