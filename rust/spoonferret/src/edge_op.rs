@@ -134,3 +134,26 @@ pub fn split_pinched_verts<L: Layout>(mesh: &mut impl Mesh<L>) -> Result<(), Ref
 pub fn dedupe_edge<L: Layout>(mesh: &mut impl Mesh<L>, edge: usize) -> Result<(), Refusal> {
     with_kept(|work| unless_dead(mesh.net().dedupe_edge(work, number(edge)), ()))
 }
+
+/// Takes the duplicate edges apart, in rounds.
+///
+/// # Errors
+///
+/// `Shape`; `Unsound`; `NoRoom` at the bounds of 1,000,000 triangles and vertices.
+pub fn dedupe_edges<L: Layout>(mesh: &mut impl Mesh<L>) -> Result<(), Refusal> {
+    with_kept(|work| mesh.net().dedupe_edges(work))
+}
+
+/// Takes a short edge out, by the mesh's epsilon: `Ok(true)`; `Ok(false)` at a dead half-edge, as the Rust says it. `scratch` is not looked at and stays as it is: the list
+/// of neighbours is one of the kept buffers.
+///
+/// # Errors
+///
+/// `Long` where the edge is not short: what the Rust does then is not here yet. `Shape`; `Unsound`; `Number`; `NoRoom` at the bound of 1,000,000 vertices; `Stopped` where a walk
+/// does not end.
+pub fn collapse_edge<L: Layout>(mesh: &mut impl Mesh<L>, edge: usize, scratch: &mut Vec<usize>, tol: f64, first_new_vert: i32) -> Result<bool, Refusal> {
+    let _ = scratch;
+    let epsilon = mesh.epsilon();
+    let said = with_kept(|work| mesh.net().collapse_edge(work, number(edge), first_new_vert, tol, epsilon));
+    unless_dead(said.map(|()| true), false)
+}

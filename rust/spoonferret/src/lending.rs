@@ -143,6 +143,9 @@ pub(crate) struct Room {
 }
 
 impl Room {
+    /// All that the bounds leave.
+    pub const ALL: Room = Room { triangles: usize::MAX, vertices: usize::MAX };
+
     /// Of each the less.
     pub fn least(self, other: Room) -> Room {
         Room { triangles: self.triangles.min(other.triangles), vertices: self.vertices.min(other.vertices) }

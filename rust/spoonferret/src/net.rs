@@ -1,40 +1,26 @@
 //! A net that owns its rows.
 
-use crate::raw::{self, Used};
-use crate::{Halfedge, Reference, Refusal, Vec3};
+use crate::lending::Shared;
+use crate::net_mut;
+use crate::workspace::with_kept;
+use crate::{Halfedge, NetMut, Own, Reference, Refusal, Vec3};
 
 /// A half-edge net: every row that its vectors hold is in use. Half-edges 3t, 3t+1 and 3t+2 are triangle t; normals and references
 /// are empty or have a row for each triangle; properties have `num_prop` numbers a row.
 #[derive(Clone, Debug, Default, PartialEq)]
 pub struct Net {
+    /// The half-edges, three a triangle.
     pub halfedges: Vec<Halfedge>,
+    /// The vertices' positions.
     pub positions: Vec<Vec3>,
+    /// The triangles' normals, or none.
     pub normals: Vec<Vec3>,
+    /// The triangles' references, or none.
     pub references: Vec<Reference>,
+    /// The properties, `num_prop` numbers a row. No operation writes them.
     pub properties: Vec<f64>,
+    /// The numbers in a row of properties.
     pub num_prop: usize,
-}
-
-const MOST_TRIANGLES: usize = 1_000_000;
-const MOST_VERTICES: usize = 1_000_000;
-
-/// The rows in use after a call that was done.
-#[derive(Clone, Copy, Debug, PartialEq)]
-struct InUse {
-    halfedges: usize,
-    vertices: usize,
-}
-
-/// The spares that an operation borrows, of the size of the half-edge and position rows in use.
-struct Spare {
-    halfedges: Vec<i32>,
-    positions: Vec<u64>,
-}
-
-impl Spare {
-    fn of(used: Used) -> Self {
-        Spare { halfedges: vec![0; used.halfedges * 4], positions: vec![0; used.vertices * 3] }
-    }
 }
 
 /// Which half-edges the owner scan looks at.
@@ -46,71 +32,33 @@ pub enum Eligible {
     StartAndEnd,
 }
 
-/// A call of the static library: the counts, the five arrays, the half-edges and positions (and the faces' arrays) lent by the methods named, and what else it takes.
-macro_rules! call {
-    ($entry:ident, $used:expr, $net:ident, $halfedges:ident, $positions:ident $(, $more:expr)*) => {
-        call!($entry, $used, $net, ($halfedges, $positions, as_ptr) $(, $more)*)
-    };
-    ($entry:ident, $used:expr, $net:ident, ($halfedges:ident, $positions:ident, $faces:ident) $(, $more:expr)*) => {
-        unsafe {
-            raw::$entry(
-                $used,
-                $net.halfedges.$halfedges().cast(),
-                $net.halfedges.len() * 4,
-                $net.positions.$positions().cast(),
-                $net.positions.len() * 3,
-                $net.normals.$faces().cast(),
-                $net.normals.len() * 3,
-                $net.references.$faces().cast(),
-                $net.references.len() * 3,
-                $net.properties.as_ptr().cast(),
-                $net.properties.len(),
-                $($more),*
-            )
-        }
-    };
-}
-
 impl Net {
-    fn used(&self) -> Used {
-        Used {
-            halfedges: self.halfedges.len(),
-            vertices: self.positions.len(),
-            normals: self.normals.len(),
+    fn shared(&self) -> Shared<'_, Own> {
+        Shared {
+            halfedges: &self.halfedges,
+            positions: &self.positions,
+            normals: &self.normals,
             references: self.references.len(),
-            properties: self.properties.len().checked_div(self.num_prop).unwrap_or(0),
+            properties: &self.properties,
             num_prop: self.num_prop,
         }
     }
 
-    /// Makes a call with so many free triangles and vertices behind the rows in use; where they were too few, with all that the bounds allow. Where it is
-    /// done the rows that are in use then are kept, else those that were.
-    fn with_room(&mut self, triangles: usize, vertices: usize, call: impl Fn(&mut Net, Used) -> Result<InUse, Refusal>) -> Result<(), Refusal> {
-        let used = self.used();
-        let mut said = Err(Refusal::NoRoom);
-        for (triangles, vertices) in [(triangles, vertices), (MOST_TRIANGLES, MOST_VERTICES)] {
-            if said == Err(Refusal::NoRoom) {
-                self.resize(used, InUse { halfedges: used.halfedges + 3 * triangles, vertices: used.vertices + vertices });
-                said = call(self, used);
-            }
+    /// The net borrowed, for calls that are lent a [`Workspace`](crate::Workspace). The methods here work in buffers that the thread keeps.
+    pub fn borrowed(&mut self) -> NetMut<'_, Own> {
+        NetMut {
+            halfedges: &mut self.halfedges,
+            positions: &mut self.positions,
+            normals: &mut self.normals,
+            references: &mut self.references,
+            properties: &self.properties,
+            num_prop: self.num_prop,
         }
-        self.resize(used, said.unwrap_or(InUse { halfedges: used.halfedges, vertices: used.vertices }));
-        said.map(|_| ())
-    }
-
-    fn resize(&mut self, used: Used, rows: InUse) {
-        // normals and references that are not in use stay so
-        let faces = |in_use: usize| if in_use == 0 { 0 } else { in_use + (rows.halfedges - used.halfedges) / 3 };
-        self.halfedges.resize(rows.halfedges, Halfedge::default());
-        self.positions.resize(rows.vertices, Vec3::default());
-        self.normals.resize(faces(used.normals), Vec3::default());
-        self.references.resize(faces(used.references), Reference::default());
     }
 
     /// Whether the net is sound: what every operation on it asks for first, but for `pair_up` and `orbit_owners`.
     pub fn check(&self) -> Result<(), Refusal> {
-        let told = call!(spoonferret_check_net, self.used(), self, as_ptr, as_ptr);
-        Refusal::unless_sound_and_done(told.number, told.row, ())
+        net_mut::check(&self.shared())
     }
 
     /// Makes two half-edges each other's partner. The net need not be sound, and nothing but the two pair fields is written.
@@ -123,8 +71,7 @@ impl Net {
     /// assert_eq!(net.pair_up(0, 3), Err(Refusal::Number));
     /// ```
     pub fn pair_up(&mut self, first: i32, second: i32) -> Result<(), Refusal> {
-        let told = call!(spoonferret_pair_up, self.used(), self, as_mut_ptr, as_ptr, first, second);
-        Refusal::unless_done(told.number, ())
+        self.borrowed().pair_up(first, second)
     }
 
     /// Walks about a vertex from `start` to `end` and sets `vertex` on the way: on the end of each half-edge and the start of its next,
@@ -146,8 +93,7 @@ impl Net {
     /// assert_eq!((net.halfedges[0].end_vert, net.halfedges[1].start_vert, net.halfedges[5].end_vert), (3, 3, 1));
     /// ```
     pub fn update_vert(&mut self, vertex: i32, start: i32, end: i32) -> Result<(), Refusal> {
-        let told = call!(spoonferret_update_vert, self.used(), self, as_mut_ptr, as_ptr, vertex, start, end);
-        Refusal::unless_sound_and_done(told.number, told.row, ())
+        self.borrowed().update_vert(vertex, start, end)
     }
 
     /// Takes a half-edge's triangle out: the partners of its second and third rows, counted from the half-edge, become each other's, and
@@ -168,8 +114,7 @@ impl Net {
     /// assert_eq!(net.halfedges[..3], [Halfedge::new(-1, -1, -1, 7); 3]);
     /// ```
     pub fn collapse_tri(&mut self, halfedge: i32) -> Result<(), Refusal> {
-        let told = call!(spoonferret_collapse_tri, self.used(), self, as_mut_ptr, as_ptr, halfedge);
-        Refusal::unless_sound_and_done(told.number, told.row, ())
+        self.borrowed().collapse_tri(halfedge)
     }
 
     /// Takes out the two triangles at an edge where they lie on one another: they have the same opposite vertex, and a second edge in
@@ -190,8 +135,7 @@ impl Net {
     /// assert!(net.positions.iter().all(|p| p.x.is_nan() && p.y.is_nan() && p.z.is_nan()));
     /// ```
     pub fn remove_if_folded(&mut self, halfedge: i32) -> Result<(), Refusal> {
-        let told = call!(spoonferret_remove_if_folded, self.used(), self, as_mut_ptr, as_mut_ptr, halfedge);
-        Refusal::unless_sound_and_done(told.number, told.row, ())
+        self.borrowed().remove_if_folded(halfedge)
     }
 
     /// Joins the net the other way across two half-edges that run between the same two vertices: the positions of the first's start and end
@@ -219,24 +163,7 @@ impl Net {
     /// assert_eq!(net.check(), Ok(()));
     /// ```
     pub fn form_loop(&mut self, first: i32, second: i32) -> Result<(), Refusal> {
-        let used = self.used();
-        let mut spare = Spare::of(used);
-        self.positions.resize(used.vertices + 2, Vec3::default());
-        let told = call!(
-            spoonferret_form_loop,
-            used,
-            self,
-            as_mut_ptr,
-            as_mut_ptr,
-            spare.halfedges.as_mut_ptr(),
-            spare.halfedges.len(),
-            spare.positions.as_mut_ptr(),
-            spare.positions.len(),
-            first,
-            second
-        );
-        self.positions.truncate(if told.number == 0 { told.vertices } else { used.vertices });
-        Refusal::unless_sound_and_done(told.number, told.row, ())
+        with_kept(|work| self.borrowed().form_loop(work, first, second))
     }
 
     /// The owner of each fan, rising: the least of its half-edges that are eligible, where it has one. The net need not be sound; refused by
@@ -254,22 +181,7 @@ impl Net {
     /// assert_eq!(net.orbit_owners(Eligible::Start), Err(Refusal::NoOwners));
     /// ```
     pub fn orbit_owners(&self, eligible: Eligible) -> Result<Vec<u32>, Refusal> {
-        let mut work = vec![0u8; self.halfedges.len()];
-        let mut list = vec![0u32; self.halfedges.len()];
-        let told = call!(
-            spoonferret_orbit_owners,
-            self.used(),
-            self,
-            as_ptr,
-            as_ptr,
-            work.as_mut_ptr(),
-            work.len(),
-            list.as_mut_ptr(),
-            list.len(),
-            eligible == Eligible::StartAndEnd
-        );
-        list.truncate(told.count);
-        Refusal::unless_done(told.number, list)
+        with_kept(|work| net_mut::orbit_owners(&self.shared(), work, eligible).map(<[u32]>::to_vec))
     }
 
     /// Gives each fan a start vertex of its own: the first at a vertex keeps it, each later one gets a copy of the position behind the others.
@@ -308,25 +220,7 @@ impl Net {
     /// # Ok::<(), spoonferret::Refusal>(())
     /// ```
     pub fn split_pinched_verts(&mut self) -> Result<Vec<u32>, Refusal> {
-        let used = self.used();
-        let mut work = vec![0u32; used.halfedges + used.vertices];
-        let mut visit = vec![0u32; used.halfedges];
-        // a fan has two half-edges or more, so copies are at most half of them
-        self.positions.resize(used.vertices + used.halfedges / 2, Vec3::default());
-        let told = call!(
-            spoonferret_split_pinched_verts,
-            used,
-            self,
-            as_mut_ptr,
-            as_mut_ptr,
-            work.as_mut_ptr(),
-            work.len(),
-            visit.as_mut_ptr(),
-            visit.len()
-        );
-        self.positions.truncate(used.vertices + told.added);
-        visit.truncate(told.steps);
-        Refusal::unless_sound_and_done(told.number, told.row, visit)
+        with_kept(|work| self.borrowed().split_pinched_verts(work).map(|split| split.visited.to_vec()))
     }
 
     /// Takes a duplicate edge apart: `halfedge` is duplicated where another of its fan ends at the same vertex. Where the two lie in one fan of the end
@@ -361,21 +255,7 @@ impl Net {
     /// assert_eq!(net.check(), Ok(()));
     /// ```
     pub fn dedupe_edge(&mut self, halfedge: i32) -> Result<(), Refusal> {
-        self.with_room(2, 2, |net, used| {
-            let mut spare = Spare::of(used);
-            let told = call!(
-                spoonferret_dedupe_edge,
-                used,
-                net,
-                (as_mut_ptr, as_mut_ptr, as_mut_ptr),
-                spare.halfedges.as_mut_ptr(),
-                spare.halfedges.len(),
-                spare.positions.as_mut_ptr(),
-                spare.positions.len(),
-                halfedge
-            );
-            Refusal::unless_sound_and_done(told.number, told.row, InUse { halfedges: told.halfedges, vertices: told.vertices })
-        })
+        with_kept(|work| self.borrowed().dedupe_edge(work, halfedge))
     }
 
     /// Takes the duplicate edges of a net apart, in rounds: each lists the half-edges of which a smaller one of the same fan ends at the same vertex, and does
@@ -408,27 +288,7 @@ impl Net {
     /// assert_eq!(Net::default().dedupe_edges(), Ok(()));
     /// ```
     pub fn dedupe_edges(&mut self) -> Result<(), Refusal> {
-        let triangles = self.halfedges.len() / 3;
-        self.with_room(triangles, triangles, |net, used| {
-            let mut spare = Spare::of(used);
-            let mut work = vec![0u32; net.halfedges.len()];
-            let mut list = vec![0u32; net.halfedges.len()];
-            let told = call!(
-                spoonferret_dedupe_edges,
-                used,
-                net,
-                (as_mut_ptr, as_mut_ptr, as_mut_ptr),
-                spare.halfedges.as_mut_ptr(),
-                spare.halfedges.len(),
-                spare.positions.as_mut_ptr(),
-                spare.positions.len(),
-                work.as_mut_ptr(),
-                work.len(),
-                list.as_mut_ptr(),
-                list.len()
-            );
-            Refusal::unless_sound_and_done(told.number, told.row, InUse { halfedges: told.halfedges, vertices: told.vertices })
-        })
+        with_kept(|work| self.borrowed().dedupe_edges(work))
     }
 
     /// Takes a short edge out: its two triangles go, its start's position becomes NaN, and what met the start meets the end. Short is what
@@ -460,30 +320,6 @@ impl Net {
     /// assert!(net.positions[0].x.is_nan() && !net.positions[1].x.is_nan());
     /// ```
     pub fn collapse_edge(&mut self, halfedge: i32, first_new_vert: i32, tol: f64, epsilon: f64) -> Result<(), Refusal> {
-        self.with_room(0, 8, |net, used| {
-            let mut spare = Spare::of(used);
-            let mut list = vec![0u32; net.halfedges.len()];
-            let told = call!(
-                spoonferret_collapse_edge,
-                used,
-                net,
-                as_mut_ptr,
-                as_mut_ptr,
-                spare.halfedges.as_mut_ptr(),
-                spare.halfedges.len(),
-                spare.positions.as_mut_ptr(),
-                spare.positions.len(),
-                list.as_mut_ptr(),
-                list.len(),
-                halfedge,
-                first_new_vert,
-                tol,
-                epsilon
-            );
-            if told.number == 8 {
-                return Err(Refusal::Long { squared_length: f64::from_bits(told.squared_length), limit: f64::from_bits(told.limit) });
-            }
-            Refusal::unless_sound_and_done(told.number, told.row, InUse { halfedges: used.halfedges, vertices: told.vertices })
-        })
+        with_kept(|work| self.borrowed().collapse_edge(work, halfedge, first_new_vert, tol, epsilon))
     }
 }

@@ -205,7 +205,7 @@ impl<L: Layout> NetMut<'_, L> {
         mut room: Room,
         most: Room,
         exactly: bool,
-        mut call: impl FnMut(&Arrays<'_>, &mut Workspace) -> Result<InUse, Refusal>,
+        mut call: impl FnMut(&mut Arrays<'_>, &mut Workspace) -> Result<InUse, Refusal>,
     ) -> Result<(), Refusal> {
         let most = most.least(self.bounds());
         let step = Room { triangles: self.halfedges.len() / 48 + 2, vertices: self.positions.len() / 16 + 2 };
@@ -223,7 +223,7 @@ impl<L: Layout> NetMut<'_, L> {
                     arrays.references = numbers.as_mut_ptr();
                     arrays.references_length = 3 * (triangles + room.triangles);
                 }
-                call(&arrays, work)
+                call(&mut arrays, work)
             });
             work.triangles = numbers;
             match said {
@@ -371,6 +371,72 @@ impl<L: Layout> NetMut<'_, L> {
         self.growing(work, room, room, false, |arrays, work| {
             let told = spares!(spoonferret_dedupe_edge, arrays, work, halfedge);
             Refusal::unless_sound_and_done(told.number, told.row, InUse { halfedges: told.halfedges, vertices: told.vertices })
+        })
+    }
+
+    /// Takes the duplicate edges apart, in rounds, as [`Net::dedupe_edges`](crate::Net::dedupe_edges) does. New rows go into the spare capacity; where it is too little the vectors
+    /// grow by twice as many rows as were too few, and the call begins again.
+    ///
+    /// # Errors
+    ///
+    /// `Shape`; `Unsound`; `NoRoom` at the bounds. (`Stopped` is never given on a sound net.)
+    pub fn dedupe_edges(&mut self, work: &mut Workspace) -> Result<(), Refusal> {
+        let used = self.used()?;
+        work.spares(used.halfedges, used.vertices);
+        let first = self.spare(Room { triangles: used.halfedges / 48 + 64, vertices: used.vertices / 16 + 64 });
+        self.growing(work, first, Room::ALL, true, |arrays, work| {
+            let capacity = arrays.halfedges_length / 4;
+            work.words(capacity);
+            work.list(capacity);
+            let told = spares!(
+                spoonferret_dedupe_edges,
+                arrays,
+                work,
+                work.words.as_mut_ptr(),
+                work.words.len(),
+                work.list.as_mut_ptr(),
+                work.list.len()
+            );
+            Refusal::unless_sound_and_done(told.number, told.row, InUse { halfedges: told.halfedges, vertices: told.vertices })
+        })
+    }
+
+    /// Takes a short edge out, as [`Net::collapse_edge`](crate::Net::collapse_edge) does. Where the net has properties and references, the references' numbers are
+    /// written to the workspace first: 12 bytes a triangle.
+    ///
+    /// # Errors
+    ///
+    /// `Shape`; `Unsound`; `Number` and `Dead` of the half-edge; `Long` with the squared length and the limit; `NoRoom` at the bound; `Stopped` where a walk does not end.
+    pub fn collapse_edge(&mut self, work: &mut Workspace, halfedge: i32, first_new_vert: i32, tol: f64, epsilon: f64) -> Result<(), Refusal> {
+        let used = self.used()?;
+        work.spares(used.halfedges, used.vertices);
+        work.list(used.halfedges);
+        let read = used.num_prop > 0;
+        if read {
+            work.faces.clear();
+            work.faces.extend(self.references.iter().flat_map(L::face));
+        }
+        let first = Room { triangles: 0, vertices: 8 };
+        self.growing(work, first, Room { triangles: 0, ..Room::ALL }, false, |arrays, work| {
+            if read {
+                arrays.references = work.faces.as_mut_ptr();
+                arrays.references_length = work.faces.len();
+            }
+            let told = spares!(
+                spoonferret_collapse_edge,
+                arrays,
+                work,
+                work.list.as_mut_ptr(),
+                work.list.len(),
+                halfedge,
+                first_new_vert,
+                tol,
+                epsilon
+            );
+            if told.number == 8 {
+                return Err(Refusal::Long { squared_length: f64::from_bits(told.squared_length), limit: f64::from_bits(told.limit) });
+            }
+            Refusal::unless_sound_and_done(told.number, told.row, InUse { halfedges: used.halfedges, vertices: told.vertices })
         })
     }
 }

@@ -107,6 +107,8 @@ fn dressed(mut mesh: Mesh) -> Mesh {
     let reference = |t: i32| TriRef { mesh_id: t / 2, original_id: 1000 + t, face_id: 7, coplanar_id: -t, mark: char::from(b'a' + t as u8) };
     mesh.references = (0..triangles).map(reference).collect();
     mesh.normals = (0..triangles).map(|t| Point(0.0, 0.0, f64::from(t))).collect();
+    mesh.properties = vec![0.0; 8];
+    mesh.num_prop = 1;
     mesh
 }
 
@@ -160,6 +162,8 @@ const OPS: &[Op] = &[
     ("remove_if_folded", |net, _, a, _| net.remove_if_folded(a), |net, a, _| net.remove_if_folded(a)),
     ("form_loop", |net, work, a, b| net.form_loop(work, a, b), |net, a, b| net.form_loop(a, b)),
     ("split_pinched_verts", |net, work, _, _| net.split_pinched_verts(work).map(|_| ()), |net, _, _| net.split_pinched_verts().map(|_| ())),
+    ("dedupe_edges", |net, work, _, _| net.dedupe_edges(work), |net, _, _| net.dedupe_edges()),
+    ("collapse_edge", |net, work, a, b| net.collapse_edge(work, a, b, 1.5, 0.5), |net, a, b| net.collapse_edge(a, b, 1.5, 0.5)),
     ("dedupe_edge", |net, work, a, _| net.dedupe_edge(work, a), |net, a, _| net.dedupe_edge(a)),
 ];
 
@@ -283,7 +287,6 @@ fn rows_that_are_not_whole() {
         mesh.num_prop = num_prop;
         assert_eq!(edge_op::Mesh::net(&mut mesh).check(), if fits { Ok(()) } else { Err(Refusal::Shape) }, "{num_prop}");
     }
-    mesh.num_prop = 7;
     mesh = dressed(mesh);
     assert_eq!(edge_op::split_pinched_verts(&mut mesh), Ok(()));
     mesh.references.pop();
