@@ -4,8 +4,6 @@ use mathlib.Core.Path.{_≡_, subst}
 use mathlib.Core.List.{List}
 use mathlib.Core.Logic.{_⊎_, inl, inr, ⊎-elim}
 use Prim.Native.Nat.{ℕ, _+_}
-use native.Mathlib.Nat.{le-refl}
-use native.Mathlib.Omega.{arith}
 use Rattle.net.specs.declared.Counts.{Counts}
 use Rattle.net.specs.Net.{Net, net}
 use Rattle.net.specs.Counts.{with-vertices}
@@ -17,12 +15,8 @@ use Rattle.splitkept.specs.Kept.{FreeKept}
 use Rattle.growth.specs.declared.Limits.{Limits}
 use Rattle.growth.specs.Growth.{Growing}
 use Rattle.settling.specs.Settling.{limits-of, begun}
-use Rattle.settling.proofs.Appended.{appended-none}
-use Rattle.settling.proofs.Kept.{Fitting, Grew, grew-trans}
-use Rattle.settling.proofs.Entry.{begun-fits}
 use Rattle.rounds.specs.Rounds.{rounds}
-use Rattle.rounds.proofs.Grown.{rounds-grew}
-use Rattle.dedupesound.proofs.Sounds.{SoundAfter, limits-same, at-entry, rounds-sound}
+use Rattle.dedupesound.proofs.Sounds.{SoundAfter, limits-same, rounds-sound}
 
 module _ (c : Counts) (n : Net) (work visit : List ℕ) (sound : Sound c n) (o : Outcome) (added steps : ℕ) (d : IsDone c n work visit o added steps) (k : FreeKept c n visit o added steps) where
   abbrev H : ℕ
@@ -41,29 +35,8 @@ module _ (c : Counts) (n : Net) (work visit : List ℕ) (sound : Sound c n) (o :
   same-limits : limits-of (with-vertices c (c .vertices + added)) split-net ≡ l
   same-limits = limits-same c n (c .vertices + added) (o .halfedges) (o .positions) (k .rows-lent) (k .positions-lent)
 
-  split-fits : Fitting l begun-split
-  split-fits = rw (← same-limits) (begun-fits (with-vertices c (c .vertices + added)) split-net (d .sound .shaped))
-
-  split-grew : Grew l (at-entry c n sound) begun-split
-  split-grew = record {
-    grows = record {
-      count-grows = le-refl _;
-      rows-free = k .rows-free;
-      rows-lent = k .rows-lent;
-      vertices-grow = omega arith;
-      positions-free = k .positions-free;
-      positions-lent = k .positions-lent;
-      normals-grow = appended-none _ _ _;
-      references-grow = appended-none _ _ _;
-    };
-    fitting = split-fits;
-  }
-
   abbrev pub cleaned : Growing
   cleaned = rounds l H begun-split .growing
-
-  pub cleaned-grew : Grew l (at-entry c n sound) cleaned
-  cleaned-grew = grew-trans l split-grew (rounds-grew l H begun-split split-fits)
 
   -- how it is left depends on no vertices that were in use before
   rounds-after : (x : Limits) → limits-of (with-vertices c (c .vertices + added)) split-net ≡ x → (rounds x H begun-split .growing .middle .run .how ≡ NoRoom) ⊎ SoundAfter c (n .properties) (rounds x H begun-split .growing)
