@@ -112,6 +112,14 @@ typedef struct {
     size_t vertices;
 } spoonferret_dedupe_edges_answer;
 
+/* As of dedupe_edge. */
+typedef struct {
+    uint32_t number;
+    size_t row;
+    size_t halfedges;
+    size_t vertices;
+} spoonferret_cleanup_topology_answer;
+
 /* vertices: vertex rows in use afterwards; row: the least row not in order; squared_length and limit: the bit patterns of doubles, where the
    edge is long; a NaN is always 0x7FF8000000000000. */
 typedef struct {
@@ -261,8 +269,7 @@ spoonferret_dedupe_edge_answer spoonferret_dedupe_edge(spoonferret_used used, in
 
 /* Takes the duplicate edges of a net apart, in rounds. Each lists the duplicates: fan by fan, each fan from its least half-edge on, those of
    which a smaller half-edge of the fan ends at the same vertex; and does dedupe_edge at each that is still duplicated when its turn comes. It ends with a
-   round that lists none, or after used.halfedges rounds. On a net with pinched vertices a corner can move: do
-   split_pinched_verts before.
+   round that lists none, or after used.halfedges rounds. On a net with pinched vertices a corner can move: do cleanup_topology there.
    Room is counted as for dedupe_edge. spare_halfedges needs 4 * used.halfedges elements, spare_positions 3 * used.vertices; work and list need the half-edge
    capacity each.
    0: done; halfedges and vertices are in use then, and over so many the net is sound. 1: shape. 2: a spare, work or list is too short. 3: not
@@ -279,6 +286,24 @@ spoonferret_dedupe_edges_answer spoonferret_dedupe_edges(spoonferret_used used, 
                                                          uint32_t *work, size_t work_length, uint32_t *list,
                                                          size_t list_length);
 
+/* Gives each fan a start vertex of its own, as split_pinched_verts does, and then takes the duplicate edges apart, as dedupe_edges does. An empty net is
+   done.
+   Room is counted as for dedupe_edge. spare_halfedges needs 4 * used.halfedges elements, spare_positions 3 * used.vertices; work needs the half-edge
+   capacity and used.vertices more, list the half-edge capacity.
+   0: done; halfedges and vertices are in use then, and over so many the net is sound. 1: shape. 2: a spare, work or list is too short. 3: not
+   sound; row. 6: a copy or a triangle finds no free row. 7: as of dedupe_edge: a sound net never comes to it.
+   After 6 and 7 the rows in use are as they were, and the free rows that had been filled read zero, of all four arrays; the others are as they were.
+   After 0, 6 and 7 the spares hold the rows in use as they were at the call, work and list read zero, over the needed lengths, and all are unchanged
+   beyond; after 1 to 3 spares, work and list are as they were. */
+spoonferret_cleanup_topology_answer spoonferret_cleanup_topology(spoonferret_used used, int32_t *halfedges, size_t halfedges_length,
+                                                                 uint64_t *positions, size_t positions_length, uint64_t *normals,
+                                                                 size_t normals_length, int32_t *references, size_t references_length,
+                                                                 const uint64_t *properties, size_t properties_length,
+                                                                 int32_t *spare_halfedges, size_t spare_halfedges_length,
+                                                                 uint64_t *spare_positions, size_t spare_positions_length,
+                                                                 uint32_t *work, size_t work_length, uint32_t *list,
+                                                                 size_t list_length);
+
 /* Takes a short edge out: its two triangles go, and what met its start meets its end. Short is what short_test says of the two positions, with the
    half-edge's end vertex and first_new_vert, tol and epsilon; first_new_vert is a limit and names no row.
    The neighbours of the end are listed. The start's position becomes the bits 0x7FF8000000000000 (NaN) for x, y and z. The partner's triangle is taken out as
@@ -287,7 +312,7 @@ spoonferret_dedupe_edges_answer spoonferret_dedupe_edges(spoonferret_used used, 
    already forms a loop, as form_loop does, with two vertices appended, and the list is cut to before it. Then the edge's triangle is taken out, and
    remove_if_folded is done where the last loop left off.
    A net with no pinched vertex and no duplicate edge is sound afterwards in all runs; on others 0 may leave a net that is not sound. Do
-   split_pinched_verts and dedupe_edges before.
+   cleanup_topology before.
    spare_halfedges needs 4 * used.halfedges elements, spare_positions 3 * used.vertices; list needs the half-edge capacity (as for dedupe_edge).
    0: done; vertices are in use then. 1: shape. 2: a spare or list is too short. 3: not sound; row. 4: halfedge is not in 0..used.halfedges. 5: it is dead.
    8: long (also with a NaN); squared_length and limit say why. 6: positions has no two free rows for a loop. 7: a walk does not end.

@@ -425,6 +425,36 @@ static void dedupe_all(void) {
     EXPECT(told.number == 3 && told.row == 2 && words(n.work, 30, filled));
 }
 
+static void cleanup(void) {
+    const uint32_t filled = 0x55555555;
+    /* work needs the half-edge capacity and the vertices in use */
+    lent_net n = roomy(2, 1);
+    EXPECT(spoonferret_cleanup_topology(ROOMY, SPARES, n.work, 21, n.list, 26).number == 2 && words(n.work, 30, filled));
+    spoonferret_cleanup_topology_answer told = spoonferret_cleanup_topology(ROOMY, SPARES, n.work, 30, n.list, 26);
+    EXPECT(told.number == 0 && told.row == 0 && told.halfedges == 18 && told.vertices == 5);
+    EXPECT(memcmp(n.rows, apart, sizeof apart) == 0 && spares_hold(&n, 1));
+    EXPECT(words(n.work, 22, 0) && words(n.work + 22, 8, filled) && words(n.list, 18, 0) && words(n.list + 18, 8, filled));
+
+    /* document 01's example is split, and no edge of it is there twice */
+    n = roomy(0, 2);
+    n.used = (spoonferret_used){.halfedges = 12, .vertices = 5};
+    memcpy(n.rows, example, sizeof example);
+    memcpy(n.positions, points, sizeof points);
+    n.lent_positions = 5;
+    EXPECT(spoonferret_cleanup_topology(ROOMY, SPARES, n.work, 30, n.list, 26).number == 6);
+    EXPECT(memcmp(n.rows, example, sizeof example) == 0);
+    n.lent_positions = 6;
+    told = spoonferret_cleanup_topology(ROOMY, SPARES, n.work, 30, n.list, 26);
+    EXPECT(told.number == 0 && told.halfedges == 12 && told.vertices == 6);
+    EXPECT(n.rows[24] == 5 && n.rows[40] == 5 && n.rows[33] == 5 && n.rows[37] == 5);
+    n.rows[2] = 4;
+    told = spoonferret_cleanup_topology(ROOMY, SPARES, n.work, 30, n.list, 26);
+    EXPECT(told.number == 3 && told.row == 0);
+    n.used = (spoonferret_used){0};
+    n.lent_rows = n.lent_positions = n.lent_faces = 0;
+    EXPECT(spoonferret_cleanup_topology(ROOMY, n.spare_rows, 0, n.spare_positions, 0, n.work, 0, n.list, 0).number == 0);
+}
+
 static void collapse(void) {
     const uint32_t filled = 0x55555555;
     /* P: the edge from (0, 0, 0) to (1, 0, 0) */
@@ -505,6 +535,7 @@ int main(void) {
     split();
     dedupe_one();
     dedupe_all();
+    cleanup();
     collapse();
     printf("%d passed, %d failed\n", passed, failed);
     return failed != 0;

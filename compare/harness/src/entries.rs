@@ -84,6 +84,7 @@ pub const ALL: &[Entry] = &[
     Entry { name: "form_loop", on_nets: true, fields: &[Plain("row"), Plain("vertices")], ours: loop_ours, owed: loop_owed, asks: loop_asks, all: each_pair, lends: loop_lends },
     Entry { name: "dedupe_edge", on_nets: true, fields: GROWN, ours: dedupe_ours, owed: dedupe_owed, asks: halfedge_asks, all: each_halfedge, lends: loop_lends },
     Entry { name: "dedupe_edges", on_nets: true, fields: GROWN, ours: rounds_ours, owed: rounds_owed, asks: three_times, all: nothing_asked, lends: rounds_lends },
+    Entry { name: "cleanup_topology", on_nets: true, fields: GROWN, ours: cleanup_ours, owed: cleanup_owed, asks: three_times, all: nothing_asked, lends: cleanup_lends },
     Entry {
         name: "collapse_edge",
         on_nets: true,
@@ -662,7 +663,7 @@ fn loop_owed(l: &mut Lent, a: &Asked) -> Said {
     agreed(l, |l| reading::form_loop(l, first, second), |mesh| original::edge_op::form_loop(mesh, first as usize, second as usize))
 }
 
-// dedupe_edge, dedupe_edges: on a sound net the Rust is always done, so its moves need no limit
+// dedupe_edge, dedupe_edges, cleanup_topology: on a sound net the Rust is always done, so its moves need no limit
 
 /// Writes back what a call between guards left in the spares, the work buffer and the list.
 fn buffers_back(l: &mut Lent, saved: Guarded<i32>, held: Guarded<u64>, work: Guarded<u32>, list: Guarded<u32>) -> Result<(), String> {
@@ -720,6 +721,11 @@ fn rounds_lends(l: &mut Lent, chance: &mut Chance) {
     lent_together(l, capacity, capacity, chance);
 }
 
+fn cleanup_lends(l: &mut Lent, chance: &mut Chance) {
+    let capacity = halfedge_capacity(l);
+    lent_together(l, capacity.saturating_add(l.used.vertices), capacity, chance);
+}
+
 /// The entries that take the spares, a work buffer and a list, and no number.
 macro_rules! on_the_whole {
     ($ours:ident, $entry:ident) => {
@@ -747,9 +753,14 @@ macro_rules! on_the_whole {
 }
 
 on_the_whole!(rounds_ours, spoonferret_dedupe_edges);
+on_the_whole!(cleanup_ours, spoonferret_cleanup_topology);
 
 fn rounds_owed(l: &mut Lent, _: &Asked) -> Said {
     agreed_within(l, u64::MAX, reading::dedupe_edges, original::edge_op::dedupe_edges)
+}
+
+fn cleanup_owed(l: &mut Lent, _: &Asked) -> Said {
+    agreed_within(l, u64::MAX, reading::cleanup_topology, original::edge_op::cleanup_topology)
 }
 
 // collapse_edge: the short arm; the Rust takes epsilon from its mesh, and with no references its long arm panics

@@ -282,7 +282,7 @@ fn compare(times: usize, only: Option<usize>, chance: &mut Chance) {
         for mut net in [pieces, narrow, wheel] {
             nets::dress(&mut net, chance);
             nets::add_room(&mut net, 3 * triangles, 3 * triangles, chance);
-            for name in ["dedupe_edge", "dedupe_edges", "collapse_edge"] {
+            for name in ["dedupe_edge", "dedupe_edges", "cleanup_topology", "collapse_edge"] {
                 table.one(entry_named(name), &net, 2, chance);
             }
         }
@@ -302,7 +302,7 @@ fn rooms(table: &mut Table, net: &Lent, most: usize, chance: &mut Chance) {
     let triangles = ((mesh.halfedge.len() - net.used.halfedges) / 3).clamp(2, 12);
     let vertices = (mesh.vert_pos.len() - net.used.vertices).clamp(2, 12);
     nets::every_room(net, triangles, vertices, chance, &mut |net, chance| {
-        for name in ["dedupe_edge", "dedupe_edges", "collapse_edge"] {
+        for name in ["dedupe_edge", "dedupe_edges", "cleanup_topology", "collapse_edge"] {
             let which = entry_named(name);
             let mut asks = (ALL[which].all)(net, chance);
             chance.shuffle(&mut asks);
@@ -334,7 +334,7 @@ fn bounds(table: &mut Table, every: bool, chance: &mut Chance) {
         net.halfedges.resize(4 * 3_000_003, -1);
         net.used.halfedges = 3 * triangles;
         net.positions.resize(3 * 8, 5);
-        for name in ["dedupe_edges"] {
+        for name in ["dedupe_edges", "cleanup_topology"] {
             table.one(entry_named(name), &net, 1, chance);
         }
     }

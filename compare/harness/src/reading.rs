@@ -633,6 +633,25 @@ fn deduped_all(l: &mut Lent, capacity: usize) -> Result<(), Halt> {
     Ok(())
 }
 
+/// Module 10 by itself: "Rising over half-edges, the first fan at a vertex keeps it; each later fan gets an appended copy."
+fn split(l: &mut Lent) -> Result<(), Halt> {
+    let mut seen = vec![false; l.used.halfedges];
+    let mut kept = vec![false; l.used.vertices];
+    for h in 0..l.used.halfedges {
+        if seen[h] || row(l, h).pair < 0 {
+            continue;
+        }
+        for c in fan(l, h)? {
+            seen[c] = true;
+        }
+        let v = row(l, h).start;
+        if std::mem::replace(&mut kept[v as usize], true) {
+            fan_copied(l, v, h)?;
+        }
+    }
+    Ok(())
+}
+
 /// Modules 11 and 13, the entries: "work buffers (at entry: .. dedupe_edges the half-edge capacity, cleanup that and V)", the list "of the half-edge capacity"; they
 /// "read zero over that length" past the checks.
 fn rounds_after(l: &mut Lent, first: fn(&mut Lent) -> Result<(), Halt>, work: usize) -> Said {
@@ -652,6 +671,11 @@ fn rounds_after(l: &mut Lent, first: fn(&mut Lent) -> Result<(), Halt>, work: us
 
 pub fn dedupe_edges(l: &mut Lent) -> Said {
     rounds_after(l, |_| Ok(()), 0)
+}
+
+pub fn cleanup_topology(l: &mut Lent) -> Said {
+    let vertices = l.used.vertices;
+    rounds_after(l, split, vertices)
 }
 
 /// What collapse is asked beside the half-edge: module 3's numbers.

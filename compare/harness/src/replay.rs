@@ -209,7 +209,7 @@ fn head(name: &str) -> String {
     if name == "split_pinched_verts" {
         out += "Open fan is not among the answers: it cannot be given once the net is sound.\n";
     }
-    if ["dedupe_edge", "dedupe_edges"].contains(&name) {
+    if ["dedupe_edge", "dedupe_edges", "cleanup_topology"].contains(&name) {
         out += "Stopped is not among the answers: it cannot be given once the net is sound.\n";
     }
     out

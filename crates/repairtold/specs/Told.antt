@@ -5,6 +5,7 @@ use Rattle.answers.specs.Answers.{Said, value}
 use Rattle.told.specs.Told.{bits, count-on}
 use Rattle.repairtold.specs.declared.DedupeEdgeAnswer.{DedupeEdgeAnswer}
 use Rattle.repairtold.specs.declared.DedupeEdgesAnswer.{DedupeEdgesAnswer}
+use Rattle.repairtold.specs.declared.CleanupTopologyAnswer.{CleanupTopologyAnswer}
 use Rattle.repairtold.specs.declared.CollapseEdgeAnswer.{CollapseEdgeAnswer}
 
 abbrev pub edge-told : Said → DedupeEdgeAnswer
@@ -18,6 +19,12 @@ edges-told s = record { number = s .number; row = count-on 3 s 0; halfedges = co
 
 abbrev pub edges-refused : ℕ → DedupeEdgesAnswer
 edges-refused number = record { number = number; row = 0; halfedges = 0; vertices = 0 }
+
+abbrev pub cleanup-told : Said → CleanupTopologyAnswer
+cleanup-told s = record { number = s .number; row = count-on 3 s 0; halfedges = count-on 0 s 0; vertices = count-on 0 s 1 }
+
+abbrev pub cleanup-refused : ℕ → CleanupTopologyAnswer
+cleanup-refused number = record { number = number; row = 0; halfedges = 0; vertices = 0 }
 
 abbrev pub collapse-told : Said → CollapseEdgeAnswer
 collapse-told s =

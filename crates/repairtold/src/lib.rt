@@ -3,8 +3,10 @@
 ghost use mathlib.Core.Path.{_≡_};
 ghost use Rattle.dedupe.specs.DedupeEdge.{dedupeSaid};
 ghost use Rattle.rounds.specs.DedupeEdges.{edgesSaid};
+ghost use Rattle.cleanup.specs.Cleanup.{cleanupSaid};
 ghost use Rattle.collapse.specs.CollapseEdge.{collapseSaid};
-ghost use Rattle.repairtold.specs.Told.{edge-told, edge-refused, edges-told, edges-refused, collapse-told, collapse-refused};
+ghost use Rattle.repairtold.specs.Told.{edge-told, edge-refused, edges-told, edges-refused, cleanup-told, cleanup-refused, collapse-told, collapse-refused};
+use cleanup::CleanupTopology;
 use collapse::CollapseEdge;
 use dedupe::entry::DedupeEdge;
 use rounds::entry::DedupeEdges;
@@ -20,6 +22,14 @@ pub struct DedupeEdgeAnswer {
 
 #[repr(C)]
 pub struct DedupeEdgesAnswer {
+    pub number: u32,
+    pub row: usize,
+    pub halfedges: usize,
+    pub vertices: usize,
+}
+
+#[repr(C)]
+pub struct CleanupTopologyAnswer {
     pub number: u32,
     pub row: usize,
     pub halfedges: usize,
@@ -103,6 +113,40 @@ pub fn of_edges(said: DedupeEdges) -> DedupeEdgesAnswer
         },
         DedupeEdges::NoRoom => edges_refused(6),
         DedupeEdges::Stopped => edges_refused(7),
+    }
+}
+
+fn cleanup_refused(number: u32) -> CleanupTopologyAnswer
+    ensures { λ r. ⌜ r ≡ cleanup-refused number ⌝ }
+{
+    CleanupTopologyAnswer {
+        number,
+        row: 0,
+        halfedges: 0,
+        vertices: 0,
+    }
+}
+
+pub fn of_cleanup(said: CleanupTopology) -> CleanupTopologyAnswer
+    ensures { λ r. ⌜ r ≡ cleanup-told (cleanupSaid said) ⌝ }
+{
+    match said {
+        CleanupTopology::Done(halfedges, vertices) => CleanupTopologyAnswer {
+            number: 0,
+            row: 0,
+            halfedges,
+            vertices,
+        },
+        CleanupTopology::Shape => cleanup_refused(1),
+        CleanupTopology::ShortBuffer => cleanup_refused(2),
+        CleanupTopology::Unsound(h) => CleanupTopologyAnswer {
+            number: 3,
+            row: h.number(),
+            halfedges: 0,
+            vertices: 0,
+        },
+        CleanupTopology::NoRoom => cleanup_refused(6),
+        CleanupTopology::Stopped => cleanup_refused(7),
     }
 }
 

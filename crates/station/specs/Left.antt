@@ -10,7 +10,8 @@ use Rattle.told.specs.Told.{split-told, owners-told, loop-told}
 use Rattle.repairtold.specs.declared.DedupeEdgeAnswer.{DedupeEdgeAnswer}
 use Rattle.repairtold.specs.declared.CollapseEdgeAnswer.{CollapseEdgeAnswer}
 use Rattle.repairtold.specs.declared.DedupeEdgesAnswer.{DedupeEdgesAnswer}
-use Rattle.repairtold.specs.Told.{edge-told, edges-told, collapse-told}
+use Rattle.repairtold.specs.declared.CleanupTopologyAnswer.{CleanupTopologyAnswer}
+use Rattle.repairtold.specs.Told.{edge-told, edges-told, cleanup-told, collapse-told}
 use Rattle.owners.specs.Scan as owners
 use Rattle.loops.specs.FormLoop.{Left}
 use Rattle.splitting.specs.Split.{Outcome}
@@ -36,6 +37,9 @@ edge-left o = (edge-told (o .said), o .halfedges, o .positions, o .normals, o .r
 
 abbrev pub edges-left : edges.Left → DedupeEdgesAnswer × List ℤ × List ℕ × List ℕ × List ℤ × List ℤ × List ℕ × List ℕ × List ℕ
 edges-left o = (edges-told (o .said), o .halfedges, o .positions, o .normals, o .references, o .saved, o .held, o .work, o .list)
+
+abbrev pub cleanup-left : edges.Left → CleanupTopologyAnswer × List ℤ × List ℕ × List ℕ × List ℤ × List ℤ × List ℕ × List ℕ × List ℕ
+cleanup-left o = (cleanup-told (o .said), o .halfedges, o .positions, o .normals, o .references, o .saved, o .held, o .work, o .list)
 
 abbrev pub collapse-left : collapse.Left → CollapseEdgeAnswer × List ℤ × List ℕ × List ℤ × List ℕ × List ℕ
 collapse-left o = (collapse-told (o .said), o .halfedges, o .positions, o .saved, o .held, o .list)

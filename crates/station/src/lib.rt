@@ -14,9 +14,11 @@ ghost use Rattle.folds.specs.RemoveIfFolded.{removeIfFolded};
 ghost use Rattle.loops.specs.FormLoop.{formLoop};
 ghost use Rattle.dedupe.specs.DedupeEdge.{dedupeEdge};
 ghost use Rattle.rounds.specs.DedupeEdges.{dedupeEdges};
+ghost use Rattle.cleanup.specs.Cleanup.{cleanupTopology};
 ghost use Rattle.collapse.specs.CollapseEdge.{collapseEdge, tolerance};
 ghost use Rattle.told.specs.Told.{told, next-told, tri-told, length-told, row-told, counts-of, vector-of, eligible-of};
-ghost use Rattle.station.specs.Left.{and-left, split-left, owners-left, loop-left, edge-left, edges-left, collapse-left};
+ghost use Rattle.station.specs.Left.{and-left, split-left, owners-left, loop-left, edge-left, edges-left, cleanup-left, collapse-left};
+use repairtold::CleanupTopologyAnswer;
 use repairtold::CollapseEdgeAnswer;
 use repairtold::DedupeEdgeAnswer;
 use repairtold::DedupeEdgesAnswer;
@@ -314,6 +316,36 @@ pub extern "C" fn spoonferret_dedupe_edges(
         ≡ edges-left (dedupeEdges (counts-of used) (net (now (halfedges .entry)) (now (positions .entry)) (now (normals .entry)) (now (references .entry)) (now (properties .entry))) (now («spare_halfedges» .entry)) (now («spare_positions» .entry)) (now (work .entry)) (now (list .entry))) ⌝ }
 {
     repairtold::of_edges(rounds::entry::dedupe_edges(
+        told::counts_of(used),
+        halfedges,
+        positions,
+        normals,
+        references,
+        properties,
+        spare_halfedges,
+        spare_positions,
+        work,
+        list,
+    ))
+}
+
+#[no_mangle]
+pub extern "C" fn spoonferret_cleanup_topology(
+    used: Used,
+    halfedges: &mut [i32],
+    positions: &mut [u64],
+    normals: &mut [u64],
+    references: &mut [i32],
+    properties: &[u64],
+    spare_halfedges: &mut [i32],
+    spare_positions: &mut [u64],
+    work: &mut [u32],
+    list: &mut [u32],
+) -> CleanupTopologyAnswer
+    ensures { λ r. ⌜ (r, now (halfedges .exit), now (positions .exit), now (normals .exit), now (references .exit), now («spare_halfedges» .exit), now («spare_positions» .exit), now (work .exit), now (list .exit))
+        ≡ cleanup-left (cleanupTopology (counts-of used) (net (now (halfedges .entry)) (now (positions .entry)) (now (normals .entry)) (now (references .entry)) (now (properties .entry))) (now («spare_halfedges» .entry)) (now («spare_positions» .entry)) (now (work .entry)) (now (list .entry))) ⌝ }
+{
+    repairtold::of_cleanup(cleanup::cleanup_topology(
         told::counts_of(used),
         halfedges,
         positions,

@@ -144,6 +144,15 @@ pub fn dedupe_edges<L: Layout>(mesh: &mut impl Mesh<L>) -> Result<(), Refusal> {
     with_kept(|work| mesh.net().dedupe_edges(work))
 }
 
+/// Splits, and then takes the duplicate edges apart.
+///
+/// # Errors
+///
+/// `Shape`; `Unsound`; `NoRoom` at the bounds of 1,000,000 triangles and vertices.
+pub fn cleanup_topology<L: Layout>(mesh: &mut impl Mesh<L>) -> Result<(), Refusal> {
+    with_kept(|work| mesh.net().cleanup_topology(work))
+}
+
 /// Takes a short edge out, by the mesh's epsilon: `Ok(true)`; `Ok(false)` at a dead half-edge, as the Rust says it. `scratch` is not looked at and stays as it is: the list
 /// of neighbours is one of the kept buffers.
 ///

@@ -260,7 +260,7 @@ impl Net {
 
     /// Takes the duplicate edges of a net apart, in rounds: each lists the half-edges of which a smaller one of the same fan ends at the same vertex, and does
     /// `dedupe_edge` at each that is so still. It ends with a round that lists none, or after as many rounds as there were half-edges. The net is sound
-    /// afterwards. A net with pinched vertices wants `split_pinched_verts` before: a corner of it can move here.
+    /// afterwards. A net with pinched vertices wants `cleanup_topology`: a corner of it can move here.
     ///
     /// # Errors
     ///
@@ -291,12 +291,42 @@ impl Net {
         with_kept(|work| self.borrowed().dedupe_edges(work))
     }
 
+    /// `split_pinched_verts` and then `dedupe_edges`, in one call: each fan gets a start vertex of its own, and the duplicate edges are taken apart. The net is
+    /// sound afterwards. An empty net is done.
+    ///
+    /// # Errors
+    ///
+    /// `Shape`, `Unsound` with the least row that is not in order, and `NoRoom` at the bounds of 1,000,000 triangles and vertices. The net is as it was.
+    /// (`Stopped` is never given on a sound net.)
+    ///
+    /// ```
+    /// use spoonferret::{Halfedge, Net, Vec3};
+    /// // document 01's example: two two-sided triangles that meet at vertex 0
+    /// let rows = [
+    ///     [0, 1, 3], [1, 2, 5], [2, 0, 4], [1, 0, 0], [0, 2, 2], [2, 1, 1],
+    ///     [0, 3, 9], [3, 4, 11], [4, 0, 10], [3, 0, 6], [0, 4, 8], [4, 3, 7],
+    /// ];
+    /// let mut net = Net {
+    ///     halfedges: rows.iter().map(|r| Halfedge::new(r[0], r[1], r[2], -1)).collect(),
+    ///     positions: (0..5).map(|i| Vec3::new(i as f64, 0.0, 0.0)).collect(),
+    ///     ..Net::default()
+    /// };
+    /// assert_eq!(net.cleanup_topology(), Ok(()));
+    /// // vertex 5 is where vertex 0 is; no edge was there twice
+    /// assert_eq!((net.halfedges.len(), net.positions.len()), (12, 6));
+    /// assert_eq!((net.halfedges[6].start_vert, net.halfedges[10].start_vert), (5, 5));
+    /// assert_eq!(Net::default().cleanup_topology(), Ok(()));
+    /// ```
+    pub fn cleanup_topology(&mut self) -> Result<(), Refusal> {
+        with_kept(|work| self.borrowed().cleanup_topology(work))
+    }
+
     /// Takes a short edge out: its two triangles go, its start's position becomes NaN, and what met the start meets the end. Short is what
     /// [`short_test`](crate::short_test) says of the two positions, the half-edge's end vertex, `first_new_vert`, `tol` and `epsilon`. Where the two vertices
     /// have another neighbour in common a loop is formed, as by `form_loop`, with two vertices more.
     ///
-    /// Where the net has no pinched vertex and no duplicate edge it was sound afterwards in every run; of other nets it may not be. So do `split_pinched_verts`
-    /// and `dedupe_edges` before.
+    /// Where the net has no pinched vertex and no duplicate edge it was sound afterwards in every run; of other nets it may not be. So do `cleanup_topology`
+    /// before.
     ///
     /// # Errors
     ///

@@ -104,6 +104,30 @@ macro_rules! spares {
     };
 }
 
+/// The operations on the whole net: spares, a work buffer of the half-edge capacity and so many words more, and a list of the half-edge capacity.
+macro_rules! on_the_whole {
+    ($entry:ident, $net:expr, $work:expr, $used:ident, $words:expr) => {{
+        let $used = $net.used()?;
+        $work.spares($used.halfedges, $used.vertices);
+        let first = $net.spare(Room { triangles: $used.halfedges / 48 + 64, vertices: $used.vertices / 16 + 64 });
+        $net.growing($work, first, Room::ALL, true, |arrays, work| {
+            let capacity = arrays.halfedges_length / 4;
+            work.words(capacity + $words);
+            work.list(capacity);
+            let told = spares!(
+                $entry,
+                arrays,
+                work,
+                work.words.as_mut_ptr(),
+                work.words.len(),
+                work.list.as_mut_ptr(),
+                work.list.len()
+            );
+            Refusal::unless_sound_and_done(told.number, told.row, InUse { halfedges: told.halfedges, vertices: told.vertices })
+        })
+    }};
+}
+
 impl<L: Layout> NetMut<'_, L> {
     fn shared(&self) -> Shared<'_, L> {
         Shared {
@@ -381,24 +405,17 @@ impl<L: Layout> NetMut<'_, L> {
     ///
     /// `Shape`; `Unsound`; `NoRoom` at the bounds. (`Stopped` is never given on a sound net.)
     pub fn dedupe_edges(&mut self, work: &mut Workspace) -> Result<(), Refusal> {
-        let used = self.used()?;
-        work.spares(used.halfedges, used.vertices);
-        let first = self.spare(Room { triangles: used.halfedges / 48 + 64, vertices: used.vertices / 16 + 64 });
-        self.growing(work, first, Room::ALL, true, |arrays, work| {
-            let capacity = arrays.halfedges_length / 4;
-            work.words(capacity);
-            work.list(capacity);
-            let told = spares!(
-                spoonferret_dedupe_edges,
-                arrays,
-                work,
-                work.words.as_mut_ptr(),
-                work.words.len(),
-                work.list.as_mut_ptr(),
-                work.list.len()
-            );
-            Refusal::unless_sound_and_done(told.number, told.row, InUse { halfedges: told.halfedges, vertices: told.vertices })
-        })
+        on_the_whole!(spoonferret_dedupe_edges, self, work, used, 0)
+    }
+
+    /// Splits and then takes the duplicate edges apart, as [`Net::cleanup_topology`](crate::Net::cleanup_topology) does. New rows go into the spare capacity; where it is too little the
+    /// vectors grow by twice as many rows as were too few, and the call begins again.
+    ///
+    /// # Errors
+    ///
+    /// `Shape`; `Unsound`; `NoRoom` at the bounds. (`Stopped` is never given on a sound net.)
+    pub fn cleanup_topology(&mut self, work: &mut Workspace) -> Result<(), Refusal> {
+        on_the_whole!(spoonferret_cleanup_topology, self, work, used, used.vertices)
     }
 
     /// Takes a short edge out, as [`Net::collapse_edge`](crate::Net::collapse_edge) does. Where the net has properties and references, the references' numbers are

@@ -85,6 +85,14 @@ pub struct DedupeEdgesAnswer {
 }
 
 #[repr(C)]
+pub struct CleanupTopologyAnswer {
+    pub number: u32,
+    pub row: usize,
+    pub halfedges: usize,
+    pub vertices: usize,
+}
+
+#[repr(C)]
 pub struct CollapseEdgeAnswer {
     pub number: u32,
     pub row: usize,
@@ -281,6 +289,28 @@ extern "C" {
         list: *mut u32,
         list_length: usize,
     ) -> DedupeEdgesAnswer;
+
+    pub fn spoonferret_cleanup_topology(
+        used: Used,
+        halfedges: *mut i32,
+        halfedges_length: usize,
+        positions: *mut u64,
+        positions_length: usize,
+        normals: *mut u64,
+        normals_length: usize,
+        references: *mut i32,
+        references_length: usize,
+        properties: *const u64,
+        properties_length: usize,
+        spare_halfedges: *mut i32,
+        spare_halfedges_length: usize,
+        spare_positions: *mut u64,
+        spare_positions_length: usize,
+        work: *mut u32,
+        work_length: usize,
+        list: *mut u32,
+        list_length: usize,
+    ) -> CleanupTopologyAnswer;
 
     pub fn spoonferret_collapse_edge(
         used: Used,

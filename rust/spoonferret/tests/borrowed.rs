@@ -163,6 +163,7 @@ const OPS: &[Op] = &[
     ("form_loop", |net, work, a, b| net.form_loop(work, a, b), |net, a, b| net.form_loop(a, b)),
     ("split_pinched_verts", |net, work, _, _| net.split_pinched_verts(work).map(|_| ()), |net, _, _| net.split_pinched_verts().map(|_| ())),
     ("dedupe_edges", |net, work, _, _| net.dedupe_edges(work), |net, _, _| net.dedupe_edges()),
+    ("cleanup_topology", |net, work, _, _| net.cleanup_topology(work), |net, _, _| net.cleanup_topology()),
     ("collapse_edge", |net, work, a, b| net.collapse_edge(work, a, b, 1.5, 0.5), |net, a, b| net.collapse_edge(a, b, 1.5, 0.5)),
     ("dedupe_edge", |net, work, a, _| net.dedupe_edge(work, a), |net, a, _| net.dedupe_edge(a)),
 ];

@@ -372,7 +372,7 @@ fn dedupe_all() {
         ..Net::default()
     };
     assert_eq!(net.check(), Ok(()));
-    assert_eq!(net.dedupe_edges(), Ok(()));
+    assert_eq!(net.cleanup_topology(), Ok(()));
     assert_eq!(net.check(), Ok(()));
     let before = net.clone();
     assert_eq!(net.dedupe_edges(), Ok(()));
@@ -384,6 +384,21 @@ fn dedupe_all() {
     let before = net.clone();
     assert_eq!(net.dedupe_edges(), Err(Refusal::NoRoom));
     assert!(same(&net, &before));
+}
+
+#[test]
+fn cleanup() {
+    let mut net = example();
+    assert_eq!(net.cleanup_topology(), Ok(()));
+    let mut owed = example();
+    assert_eq!(owed.split_pinched_verts().map(|visited| visited.len()), Ok(12));
+    assert_eq!(net, owed);
+    let mut net = pillows();
+    assert_eq!(net.cleanup_topology(), Ok(()));
+    assert_eq!(plain(&net), APART);
+    assert_eq!(Net::default().cleanup_topology(), Ok(()));
+    net.halfedges[0].end_vert = 2;
+    assert_eq!(net.cleanup_topology(), Err(Refusal::Unsound { row: 0 }));
 }
 
 #[test]
