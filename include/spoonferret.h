@@ -14,8 +14,13 @@
      references   int32_t, 3 a row: mesh_id, coplanar_id, face_id: none, or a row for each triangle.
      properties   uint64_t, num_prop a row, bit patterns.
 
+   A range a..b is half-open: b is not in it. Elements behind the last whole row of an array are never read or written. Where num_prop is 0, a property row has no
+   elements: the array is not looked at, and used.properties is held to its bound alone.
+
    WHAT A CALLER OWES. An array that a function may write (its pointer is not const) overlaps no other. A pointer is aligned for
-   its type and is not NULL, even where the length is 0. No other thread writes the arrays during a call.
+   its type and is not NULL, even where the length is 0 (the functions of spoonferret_net.h allow NULL). No other thread writes the arrays during a call.
+   Nothing is shared between calls, so calls on different nets may run at once. An array of doubles may be passed as uint64_t by a cast of the pointer:
+   no C code looks at it by that type, and what the library reads and writes are its bytes, so a compiler's rules on aliasing are kept.
 
    WHAT A CALL SAYS. Each function answers a struct whose field `number` is
      0 done            1 shape           2 short buffer     3 unsound          4 number           5 dead
@@ -29,9 +34,59 @@
 #include <stddef.h>
 #include <stdint.h>
 
+#define SPOONFERRET_VERSION_MAJOR 0
+#define SPOONFERRET_VERSION_MINOR 1
+#define SPOONFERRET_VERSION_PATCH 0
+#define SPOONFERRET_VERSION "0.1.0"
+
 #ifdef __cplusplus
 extern "C" {
 #endif
+
+/* The answers by name: what `number` holds. */
+enum {
+    SPOONFERRET_DONE = 0,
+    SPOONFERRET_SHAPE = 1,
+    SPOONFERRET_SHORT_BUFFER = 2,
+    SPOONFERRET_UNSOUND = 3,
+    SPOONFERRET_NUMBER = 4,
+    SPOONFERRET_DEAD = 5,
+    SPOONFERRET_NO_ROOM = 6,
+    SPOONFERRET_STOPPED = 7,
+    SPOONFERRET_LONG = 8,
+    SPOONFERRET_OPEN_FAN = 9,
+    SPOONFERRET_NO_OWNERS = 10
+};
+
+/* An answer in words, for a message. */
+static inline const char *spoonferret_answer_text(uint32_t number) {
+    switch (number) {
+    case SPOONFERRET_DONE:
+        return "done";
+    case SPOONFERRET_SHAPE:
+        return "shape: the counts do not fit the arrays, one another or the bounds";
+    case SPOONFERRET_SHORT_BUFFER:
+        return "short buffer: a work buffer, list or spare is too short";
+    case SPOONFERRET_UNSOUND:
+        return "unsound: a row is not in order";
+    case SPOONFERRET_NUMBER:
+        return "number: it names no half-edge in use or no vertex in use, or has no next";
+    case SPOONFERRET_DEAD:
+        return "dead: a named half-edge is dead";
+    case SPOONFERRET_NO_ROOM:
+        return "no room: the next append would pass a capacity";
+    case SPOONFERRET_STOPPED:
+        return "stopped: a row that is not there would be read or written, or a walk never ends";
+    case SPOONFERRET_LONG:
+        return "long: the squared length is not below the limit";
+    case SPOONFERRET_OPEN_FAN:
+        return "open fan: a fan does not close";
+    case SPOONFERRET_NO_OWNERS:
+        return "no owners: a pair does not point back, or an eligible half-edge's fan is open";
+    default:
+        return "no answer of this library";
+    }
+}
 
 /* How many rows of each array are in use, and how many numbers a property row has.
    In shape: halfedges is a multiple of 3, at most 3,000,000 and at most the rows lent; vertices at most 1,000,000 and the rows lent;

@@ -6,6 +6,7 @@
 mod chance;
 mod entries;
 mod lent;
+mod names;
 mod nets;
 mod reading;
 mod replay;
@@ -30,13 +31,18 @@ impl Line {
         let (mut ours, mut owed) = (net.clone(), net.clone());
         let said = (entry.ours)(&mut ours, asked);
         let wanted = (entry.owed)(&mut owed, asked);
-        self.calls += 1;
-        self.by_number[(wanted.number as usize).min(11)] += 1;
         let wrong = match said {
             Err(wrong) => Some(wrong),
             Ok(said) if said != wanted => Some(format!("said {said:?}, owed {wanted:?}")),
             Ok(_) => ours.differs(&owed),
         };
+        self.count(wanted.number, wrong, entry, which, net, asked);
+    }
+
+    /// Counts a call that was answered so, and keeps the smallest that was wrong.
+    fn count(&mut self, number: u32, wrong: Option<String>, entry: &Entry, which: usize, net: &Lent, asked: &Asked) {
+        self.calls += 1;
+        self.by_number[(number as usize).min(11)] += 1;
         let Some(wrong) = wrong else { return };
         self.differences += 1;
         let size = net.size();
@@ -49,6 +55,8 @@ impl Line {
 
 struct Table {
     lines: Vec<Line>,
+    /// the module edge_op of the Rust crate, on the same nets
+    names: Vec<Line>,
     only: Option<usize>,
     began: Instant,
     shown: Instant,
@@ -56,7 +64,8 @@ struct Table {
 
 impl Table {
     fn new(only: Option<usize>) -> Table {
-        Table { lines: ALL.iter().map(|_| Line::default()).collect(), only, began: Instant::now(), shown: Instant::now() }
+        let lines = || ALL.iter().map(|_| Line::default()).collect();
+        Table { lines: lines(), names: lines(), only, began: Instant::now(), shown: Instant::now() }
     }
 
     fn run(&mut self, which: usize, net: &Lent, asked: &Asked) {
@@ -64,6 +73,9 @@ impl Table {
             return;
         }
         self.lines[which].take(&ALL[which], which, net, asked);
+        if let Some((number, wrong)) = names::beside(&ALL[which], net, asked) {
+            self.names[which].count(number, wrong, &ALL[which], which, net, asked);
+        }
         if self.shown.elapsed().as_secs() >= 5 {
             self.shown = Instant::now();
             eprintln!("  {} calls", self.calls());
@@ -71,7 +83,7 @@ impl Table {
     }
 
     fn calls(&self) -> u64 {
-        self.lines.iter().map(|l| l.calls).sum()
+        self.lines.iter().chain(&self.names).map(|l| l.calls).sum()
     }
 
     fn stage(&self, what: &str) {
@@ -372,15 +384,17 @@ fn bounds(table: &mut Table, every: bool, chance: &mut Chance) {
 
 fn report(table: &Table) {
     let (mut passed, mut failed) = (0, 0);
-    println!("{:<20}{:>12}{:>12}{:>12}  refused by number", "entry", "calls", "done", "differences");
-    for (entry, line) in ALL.iter().zip(&table.lines) {
+    println!("{:<30}{:>12}{:>12}{:>12}  refused by number", "entry", "calls", "done", "differences");
+    let lines = ALL.iter().zip(&table.lines).map(|(entry, line)| (entry.name.to_string(), line));
+    let names = ALL.iter().zip(&table.names).filter(|(_, line)| line.calls > 0).map(|(entry, line)| (format!("edge_op::{}", entry.name), line));
+    for (name, line) in lines.chain(names) {
         let refused: Vec<String> =
             (1..12).filter(|&n| line.by_number[n] > 0).map(|n| format!("{n}: {}", line.by_number[n])).collect();
-        println!("{:<20}{:>12}{:>12}{:>12}  {}", entry.name, line.calls, line.by_number[0], line.differences, refused.join(", "));
+        println!("{:<30}{:>12}{:>12}{:>12}  {}", name, line.calls, line.by_number[0], line.differences, refused.join(", "));
         passed += line.calls - line.differences;
         failed += line.differences;
     }
-    for (_, smallest) in table.lines.iter().filter_map(|l| l.smallest.as_ref()) {
+    for (_, smallest) in table.lines.iter().chain(&table.names).filter_map(|l| l.smallest.as_ref()) {
         println!("\nthe smallest input of a difference:\n{smallest}");
         if let Ok(mut file) = std::fs::OpenOptions::new().create(true).append(true).open("differences.txt") {
             let _ = writeln!(file, "{smallest}");
