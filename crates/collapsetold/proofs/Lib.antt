@@ -1,3 +1,5 @@
 pub mod Plain
+pub mod Ways
+pub mod Collapsed
 pub mod Told
 pub mod Cases

@@ -99,7 +99,7 @@ begun-told H N R P thirds few in-order e l =
     (collapse-goes H N (begin R (put-triple (start-vertex R e) nan P) N) thirds in-order (partner R e) (partner-live H N R thirds in-order l) refl)
 
 -- the walk writes no number but props: every start, end and pair is as it was
-carried-other : (d : Column) → (offset d ≡ offset prop → ⊥) → (props : Bool) (references : List ℤ) (e p h g : ℕ) (l : List ℤ) → column d (carried props references e p h l) g ≡ column d l g
+pub carried-other : (d : Column) → (offset d ≡ offset prop → ⊥) → (props : Bool) (references : List ℤ) (e p h g : ℕ) (l : List ℤ) → column d (carried props references e p h l) g ≡ column d l g
 unfolding carried
 carried-other d o false references e p h g l = refl
 carried-other d o true references e p h g l =
