@@ -174,6 +174,17 @@ static inline spoonferret_dedupe_edges_answer spoonferret_net_dedupe_edges(spoon
     return told;
 }
 
+/* Borrows the spares, words and list. */
+static inline spoonferret_cleanup_topology_answer spoonferret_net_cleanup_topology(spoonferret_net *net, spoonferret_buffers *buffers) {
+    const spoonferret_cleanup_topology_answer told =
+        spoonferret_cleanup_topology(SPOONFERRET_ROWS(net), SPOONFERRET_SPARES(buffers), SPOONFERRET_AT(uint32_t, buffers->words),
+                                     SPOONFERRET_AT(uint32_t, buffers->list));
+    if (told.number == SPOONFERRET_DONE) {
+        spoonferret_net_grew(net, told.halfedges, told.vertices);
+    }
+    return told;
+}
+
 /* Borrows the spares and list. */
 static inline spoonferret_collapse_edge_answer spoonferret_net_collapse_edge(spoonferret_net *net, spoonferret_buffers *buffers,
                                                                              int32_t halfedge, int32_t first_new_vert, double tol,

@@ -151,6 +151,14 @@ spoonferret_dedupe_edges_answer spoonferret_dedupe_edges(NET_ALL, SPARES, uint32
     return (spoonferret_dedupe_edges_answer){answer, ROW, HALFEDGES, VERTICES};
 }
 
+spoonferret_cleanup_topology_answer spoonferret_cleanup_topology(NET_ALL, SPARES, uint32_t *work, size_t work_length, uint32_t *list,
+                                                                 size_t list_length) {
+    NOTE_SPARES;
+    more(work, work_length);
+    more(list, list_length);
+    return (spoonferret_cleanup_topology_answer){answer, ROW, HALFEDGES, VERTICES};
+}
+
 spoonferret_collapse_edge_answer spoonferret_collapse_edge(NET_POSITIONS, SPARES, uint32_t *list, size_t list_length, int32_t halfedge,
                                                            int32_t first_new_vert, double tol, double epsilon) {
     NOTE_SPARES;
@@ -270,6 +278,14 @@ static void each(uint32_t said) {
     SPARES_GIVEN;
     EXPECT(is(7, words, 28) && is(8, list, 29));
     EXPECT(edges.number == said && edges.row == ROW && edges.halfedges == HALFEDGES && edges.vertices == VERTICES);
+    EXPECT(done ? counts(&net, HALFEDGES, VERTICES, HALFEDGES / 3, HALFEDGES / 3) : counts(&net, 11, 12, 13, 14));
+
+    net = fresh();
+    spoonferret_cleanup_topology_answer cleanup = spoonferret_net_cleanup_topology(&net, &buffers);
+    GIVEN("spoonferret_cleanup_topology", 9);
+    SPARES_GIVEN;
+    EXPECT(is(7, words, 28) && is(8, list, 29));
+    EXPECT(cleanup.number == said && cleanup.row == ROW && cleanup.halfedges == HALFEDGES && cleanup.vertices == VERTICES);
     EXPECT(done ? counts(&net, HALFEDGES, VERTICES, HALFEDGES / 3, HALFEDGES / 3) : counts(&net, 11, 12, 13, 14));
 
     net = fresh();

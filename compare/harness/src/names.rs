@@ -82,6 +82,10 @@ const NAMES: &[(&str, Ours, Theirs)] = &[
         theirs::dedupe_edges(m);
         true
     }),
+    ("cleanup_topology", |m, _| ours::cleanup_topology(m).map(|()| true), |m, _| {
+        theirs::cleanup_topology(m);
+        true
+    }),
     (
         "collapse_edge",
         |m, a| ours::collapse_edge(m, at(a, 0), &mut vec![], f64::from_bits(a.floats[0]), a.numbers[1]),

@@ -1,8 +1,17 @@
 //! Mesh surgery on half-edges, proved.
 //!
 //! Each function here calls one of the static library's, whose contract is proved for every input: what it answers, and what it
-//! leaves in everything that was lent to it. This crate owns the vectors, sizes and lends what a call needs, and turns answers into
-//! `Result`. It has no dependency and builds the static library itself.
+//! leaves in everything that was lent to it. This crate sizes and lends what a call needs, and turns answers into `Result`. It has no dependency and
+//! builds the static library itself, by `rt`; where that is built already, the variable `SPOONFERRET_LIB` names the folder of libstation.a or libspoonferret.a, absolute or
+//! relative to where cargo is run, and nothing is built.
+//!
+//! Three ways in, one beneath the other:
+//!
+//! - [`Net`] owns its vectors, of the crate's own row types.
+//! - [`NetMut`] borrows the caller's vectors, of the caller's types where [`layout!`] proves that they fit, and works in a [`Workspace`] whose buffers are kept.
+//! - [`edge_op`] has the names and arguments of manifold-rust's module, over a mesh that implements [`edge_op::Mesh`].
+//!
+//! [`raw`] has the library's functions themselves. Calls on different nets may run at once, on any threads: nothing is shared between them.
 //!
 //! ```
 //! use spoonferret::{Halfedge, Net, Refusal, Vec3};
@@ -21,6 +30,8 @@
 //! assert_eq!(refusal, Refusal::Unsound { row: 2 });
 //! assert_eq!(refusal.to_string(), "unsound (3): row 2 is the least row that is not in order");
 //! ```
+
+#![warn(missing_docs)]
 
 #[macro_use]
 mod lending;
@@ -42,6 +53,10 @@ pub use workspace::{release_kept, Workspace};
 
 /// The next half-edge of its triangle: `h + 1`, or `h - 2` where `h + 1` divides by 3. It is wanted on every `i32` but two.
 ///
+/// # Errors
+///
+/// `Number` for 2147483647 and −2147483647, which have none.
+///
 /// ```
 /// use spoonferret::{next_halfedge, Refusal};
 /// assert_eq!(next_halfedge(2), Ok(0));
@@ -56,6 +71,10 @@ pub fn next_halfedge(h: i32) -> Result<i32, Refusal> {
 
 /// The triangle of `h`, from `h` on.
 ///
+/// # Errors
+///
+/// `Number` where one of the two nexts is not there.
+///
 /// ```
 /// use spoonferret::tri_of;
 /// assert_eq!(tri_of(4), Ok([4, 5, 3]));
@@ -67,6 +86,10 @@ pub fn tri_of(h: i32) -> Result<[i32; 3], Refusal> {
 
 /// Whether the edge between two positions is short: its squared length is strictly below `tol * tol` where
 /// `end_vert < first_new_vert`, else below `epsilon * epsilon`. A `tol` below 0 stands for `epsilon`.
+///
+/// # Errors
+///
+/// `Long` with the squared length and the limit, also where there is a NaN.
 ///
 /// ```
 /// use spoonferret::{short_test, Refusal, Vec3};

@@ -57,11 +57,19 @@ impl Net {
     }
 
     /// Whether the net is sound: what every operation on it asks for first, but for `pair_up` and `orbit_owners`.
+    ///
+    /// # Errors
+    ///
+    /// `Shape`; `Unsound` with the least row that is not in order.
     pub fn check(&self) -> Result<(), Refusal> {
         net_mut::check(&self.shared())
     }
 
     /// Makes two half-edges each other's partner. The net need not be sound, and nothing but the two pair fields is written.
+    ///
+    /// # Errors
+    ///
+    /// `Shape`; `Number` where one of them is not in use.
     ///
     /// ```
     /// use spoonferret::{Halfedge, Net, Refusal};
@@ -77,6 +85,10 @@ impl Net {
     /// Walks about a vertex from `start` to `end` and sets `vertex` on the way: on the end of each half-edge and the start of its next,
     /// before it goes to that next's partner. `end` itself is not written, and `start` equal to `end` does nothing. Refused by `Stopped`
     /// where the walk does not come to `end`. The net is as a rule not sound afterwards: this is a step of larger surgery.
+    ///
+    /// # Errors
+    ///
+    /// `Shape`; `Unsound`; `Number` of the vertex or a half-edge; `Dead` of a half-edge; `Stopped` where the walk does not come to `end`.
     ///
     /// ```
     /// use spoonferret::{Halfedge, Net, Refusal, Vec3};
@@ -98,6 +110,10 @@ impl Net {
 
     /// Takes a half-edge's triangle out: the partners of its second and third rows, counted from the half-edge, become each other's, and
     /// its three rows are emptied and keep their `prop_vert`. The half-edge's own partner still points to it: this is a step of larger surgery.
+    ///
+    /// # Errors
+    ///
+    /// `Shape`; `Unsound`; `Number` and `Dead` of the half-edge.
     ///
     /// ```
     /// use spoonferret::{Halfedge, Net, Refusal, Vec3};
@@ -121,6 +137,10 @@ impl Net {
     /// common. Their six rows are emptied, `prop_vert` too, what lay beside them is joined, and a vertex that nothing is left of gets NaN for
     /// its position. Where they are not folded so, nothing changes and it is done all the same.
     ///
+    /// # Errors
+    ///
+    /// `Shape`; `Unsound`; `Number` and `Dead` of the half-edge.
+    ///
     /// ```
     /// use spoonferret::{Halfedge, Net, Vec3};
     /// // two triangles back to back: nothing is left of them
@@ -141,6 +161,10 @@ impl Net {
     /// Joins the net the other way across two half-edges that run between the same two vertices: the positions of the first's start and end
     /// are appended, the copies are set on one side, the two pairs are exchanged, and `remove_if_folded` is done at the second. Refused by
     /// `Stopped` where a walk from one to the other does not come there, and by `NoRoom` at the bound of 1,000,000 vertices.
+    ///
+    /// # Errors
+    ///
+    /// `Shape`; `Unsound`; `Number` and `Dead` of a half-edge; `NoRoom`; `Stopped`.
     ///
     /// ```
     /// use spoonferret::{Halfedge, Net, Vec3};
@@ -169,6 +193,10 @@ impl Net {
     /// The owner of each fan, rising: the least of its half-edges that are eligible, where it has one. The net need not be sound; refused by
     /// `NoOwners` where a pair of 0 or more does not point back, or an eligible half-edge's fan comes to a row without pair.
     ///
+    /// # Errors
+    ///
+    /// `Shape`; `NoOwners`.
+    ///
     /// ```
     /// use spoonferret::{Eligible, Halfedge, Net, Refusal};
     /// // two triangles back to back: a fan at each of three vertices
@@ -186,6 +214,10 @@ impl Net {
 
     /// Gives each fan a start vertex of its own: the first at a vertex keeps it, each later one gets a copy of the position behind the others.
     /// The half-edges visited, fan by fan.
+    ///
+    /// # Errors
+    ///
+    /// `Shape`; `Unsound`; `NoRoom` at the bound of 1,000,000 vertices. (`OpenFan` is never given on a sound net.)
     ///
     /// ```
     /// use spoonferret::{Halfedge, Net, Vec3};

@@ -7,105 +7,176 @@ use crate::Vec3;
 #[repr(C)]
 #[derive(Clone, Copy, Debug)]
 pub struct Used {
+    /// half-edge rows in use
     pub halfedges: usize,
+    /// vertex rows in use
     pub vertices: usize,
+    /// normal rows in use
     pub normals: usize,
+    /// reference rows in use
     pub references: usize,
+    /// property rows in use
     pub properties: usize,
+    /// numbers in a property row
     pub num_prop: usize,
 }
 
+/// `spoonferret_answer`
 #[repr(C)]
+#[derive(Clone, Copy, Debug)]
 pub struct Answer {
+    /// the answer's number
     pub number: u32,
 }
 
+/// `spoonferret_next_answer`
 #[repr(C)]
+#[derive(Clone, Copy, Debug)]
 pub struct NextAnswer {
+    /// the answer's number
     pub number: u32,
+    /// the next half-edge
     pub next: i32,
 }
 
+/// `spoonferret_tri_answer`
 #[repr(C)]
+#[derive(Clone, Copy, Debug)]
 pub struct TriAnswer {
+    /// the answer's number
     pub number: u32,
+    /// the first half-edge
     pub first: i32,
+    /// the second
     pub second: i32,
+    /// the third
     pub third: i32,
 }
 
+/// `spoonferret_length_answer`
 #[repr(C)]
+#[derive(Clone, Copy, Debug)]
 pub struct LengthAnswer {
+    /// the answer's number
     pub number: u32,
+    /// the squared length's bits
     pub squared_length: u64,
+    /// the limit's bits
     pub limit: u64,
 }
 
+/// `spoonferret_row_answer`
 #[repr(C)]
+#[derive(Clone, Copy, Debug)]
 pub struct RowAnswer {
+    /// the answer's number
     pub number: u32,
+    /// the least row that is not in order
     pub row: usize,
 }
 
+/// `spoonferret_split_answer`
 #[repr(C)]
+#[derive(Clone, Copy, Debug)]
 pub struct SplitAnswer {
+    /// the answer's number
     pub number: u32,
+    /// the least row that is not in order
     pub row: usize,
+    /// vertices copied
     pub added: usize,
+    /// half-edges visited
     pub steps: usize,
 }
 
+/// `spoonferret_owners_answer`
 #[repr(C)]
+#[derive(Clone, Copy, Debug)]
 pub struct OwnersAnswer {
+    /// the answer's number
     pub number: u32,
+    /// half-edges listed
     pub count: usize,
 }
 
+/// `spoonferret_loop_answer`
 #[repr(C)]
+#[derive(Clone, Copy, Debug)]
 pub struct LoopAnswer {
+    /// the answer's number
     pub number: u32,
+    /// the least row that is not in order
     pub row: usize,
+    /// vertex rows in use
     pub vertices: usize,
 }
 
+/// `spoonferret_dedupe_edge_answer`
 #[repr(C)]
+#[derive(Clone, Copy, Debug)]
 pub struct DedupeEdgeAnswer {
+    /// the answer's number
     pub number: u32,
+    /// the least row that is not in order
     pub row: usize,
+    /// half-edge rows in use
     pub halfedges: usize,
+    /// vertex rows in use
     pub vertices: usize,
 }
 
+/// `spoonferret_dedupe_edges_answer`
 #[repr(C)]
+#[derive(Clone, Copy, Debug)]
 pub struct DedupeEdgesAnswer {
+    /// the answer's number
     pub number: u32,
+    /// the least row that is not in order
     pub row: usize,
+    /// half-edge rows in use
     pub halfedges: usize,
+    /// vertex rows in use
     pub vertices: usize,
 }
 
+/// `spoonferret_cleanup_topology_answer`
 #[repr(C)]
+#[derive(Clone, Copy, Debug)]
 pub struct CleanupTopologyAnswer {
+    /// the answer's number
     pub number: u32,
+    /// the least row that is not in order
     pub row: usize,
+    /// half-edge rows in use
     pub halfedges: usize,
+    /// vertex rows in use
     pub vertices: usize,
 }
 
+/// `spoonferret_collapse_edge_answer`
 #[repr(C)]
+#[derive(Clone, Copy, Debug)]
 pub struct CollapseEdgeAnswer {
+    /// the answer's number
     pub number: u32,
+    /// the least row that is not in order
     pub row: usize,
+    /// vertex rows in use
     pub vertices: usize,
+    /// the squared length's bits
     pub squared_length: u64,
+    /// the limit's bits
     pub limit: u64,
 }
 
 extern "C" {
+    /// `spoonferret_next_halfedge`
     pub fn spoonferret_next_halfedge(h: i32) -> NextAnswer;
 
+    /// `spoonferret_tri_of`
     pub fn spoonferret_tri_of(h: i32) -> TriAnswer;
 
+    /// `spoonferret_short_test`
     pub fn spoonferret_short_test(
         from: Vec3,
         to: Vec3,
@@ -115,6 +186,7 @@ extern "C" {
         epsilon: f64,
     ) -> LengthAnswer;
 
+    /// `spoonferret_check_net`
     pub fn spoonferret_check_net(
         used: Used,
         halfedges: *const i32,
@@ -129,6 +201,7 @@ extern "C" {
         properties_length: usize,
     ) -> RowAnswer;
 
+    /// `spoonferret_pair_up`
     pub fn spoonferret_pair_up(
         used: Used,
         halfedges: *mut i32,
@@ -145,6 +218,7 @@ extern "C" {
         second: i32,
     ) -> Answer;
 
+    /// `spoonferret_update_vert`
     pub fn spoonferret_update_vert(
         used: Used,
         halfedges: *mut i32,
@@ -162,6 +236,7 @@ extern "C" {
         end: i32,
     ) -> RowAnswer;
 
+    /// `spoonferret_collapse_tri`
     pub fn spoonferret_collapse_tri(
         used: Used,
         halfedges: *mut i32,
@@ -177,6 +252,7 @@ extern "C" {
         halfedge: i32,
     ) -> RowAnswer;
 
+    /// `spoonferret_remove_if_folded`
     pub fn spoonferret_remove_if_folded(
         used: Used,
         halfedges: *mut i32,
@@ -192,6 +268,7 @@ extern "C" {
         halfedge: i32,
     ) -> RowAnswer;
 
+    /// `spoonferret_form_loop`
     pub fn spoonferret_form_loop(
         used: Used,
         halfedges: *mut i32,
@@ -212,6 +289,7 @@ extern "C" {
         second: i32,
     ) -> LoopAnswer;
 
+    /// `spoonferret_orbit_owners`
     pub fn spoonferret_orbit_owners(
         used: Used,
         halfedges: *const i32,
@@ -231,6 +309,7 @@ extern "C" {
         end_too: bool,
     ) -> OwnersAnswer;
 
+    /// `spoonferret_split_pinched_verts`
     pub fn spoonferret_split_pinched_verts(
         used: Used,
         halfedges: *mut i32,
@@ -249,6 +328,7 @@ extern "C" {
         visit_length: usize,
     ) -> SplitAnswer;
 
+    /// `spoonferret_dedupe_edge`
     pub fn spoonferret_dedupe_edge(
         used: Used,
         halfedges: *mut i32,
@@ -268,6 +348,7 @@ extern "C" {
         halfedge: i32,
     ) -> DedupeEdgeAnswer;
 
+    /// `spoonferret_dedupe_edges`
     pub fn spoonferret_dedupe_edges(
         used: Used,
         halfedges: *mut i32,
@@ -290,6 +371,7 @@ extern "C" {
         list_length: usize,
     ) -> DedupeEdgesAnswer;
 
+    /// `spoonferret_cleanup_topology`
     pub fn spoonferret_cleanup_topology(
         used: Used,
         halfedges: *mut i32,
@@ -312,6 +394,7 @@ extern "C" {
         list_length: usize,
     ) -> CleanupTopologyAnswer;
 
+    /// `spoonferret_collapse_edge`
     pub fn spoonferret_collapse_edge(
         used: Used,
         halfedges: *mut i32,

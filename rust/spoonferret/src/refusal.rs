@@ -4,16 +4,35 @@ use std::fmt;
 
 /// What a call says when it is not done, with document 01's number in `number()`. Every refusal leaves the net as it was.
 #[derive(Clone, Copy, Debug, PartialEq)]
+#[non_exhaustive]
 pub enum Refusal {
+    /// 1: the counts do not fit the arrays, one another or the bounds.
     Shape,
+    /// 2: a work buffer, list or spare is too short. This crate lends them long enough and never says it.
     ShortBuffer,
-    Unsound { row: usize },
+    /// 3: the net is not sound.
+    Unsound {
+        /// the least row that is not in order
+        row: usize,
+    },
+    /// 4: a number that names no half-edge in use or no vertex in use, or that has no next.
     Number,
+    /// 5: a named half-edge is dead.
     Dead,
+    /// 6: the next append would pass a bound.
     NoRoom,
+    /// 7: the next step would read or write a row that isn't there, or a walk never ends.
     Stopped,
-    Long { squared_length: f64, limit: f64 },
+    /// 8: the edge is not short.
+    Long {
+        /// the squared length of the edge
+        squared_length: f64,
+        /// what it had to be below
+        limit: f64,
+    },
+    /// 9: a fan does not close. It is never said of a sound net.
     OpenFan,
+    /// 10: the owner scan met a pair that does not point back, or an eligible half-edge whose fan is open.
     NoOwners,
 }
 

@@ -11,13 +11,18 @@
 #[repr(C)]
 #[derive(Clone, Copy, Debug, Default, PartialEq, Eq)]
 pub struct Halfedge {
+    /// The vertex where it starts, or -1.
     pub start_vert: i32,
+    /// The vertex where it ends, or -1.
     pub end_vert: i32,
+    /// Its partner, the half-edge that runs the other way along the same edge, or -1.
     pub paired_halfedge: i32,
+    /// The property row of its corner.
     pub prop_vert: i32,
 }
 
 impl Halfedge {
+    /// A row of these fields.
     pub fn new(start_vert: i32, end_vert: i32, paired_halfedge: i32, prop_vert: i32) -> Self {
         Halfedge { start_vert, end_vert, paired_halfedge, prop_vert }
     }
@@ -39,12 +44,16 @@ impl From<Halfedge> for (i32, i32, i32, i32) {
 #[repr(C)]
 #[derive(Clone, Copy, Debug, Default, PartialEq)]
 pub struct Vec3 {
+    /// The first coordinate.
     pub x: f64,
+    /// The second coordinate.
     pub y: f64,
+    /// The third coordinate.
     pub z: f64,
 }
 
 impl Vec3 {
+    /// A vector of these coordinates.
     pub fn new(x: f64, y: f64, z: f64) -> Self {
         Vec3 { x, y, z }
     }
@@ -75,8 +84,11 @@ impl From<Vec3> for [f64; 3] {
 #[repr(C)]
 #[derive(Clone, Copy, Debug, Default, PartialEq, Eq)]
 pub struct Reference {
+    /// The mesh instance that the triangle belongs to.
     pub mesh_id: i32,
+    /// Triangles in one plane have it in common.
     pub coplanar_id: i32,
+    /// The face of the source.
     pub face_id: i32,
 }
 
