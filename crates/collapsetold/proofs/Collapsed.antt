@@ -7,7 +7,7 @@ use Prim.Native.Nat.{ℕ, _%_, _<_, _≤_}
 use native.Mathlib.Decide.{ℕ-discrete}
 use native.Mathlib.Omega.{arith}
 use lib.IntN.{ℤ, pos, natAbs, pos-ne-negsuc}
-use lib.ListN.{length}
+use lib.ListN.{length, getD}
 use Rattle.laws.proofs.Integers.{eqZ-no}
 use Rattle.laws.proofs.Tests.{by-test, not-both}
 use Rattle.numbers.specs.Next.{next}
@@ -36,12 +36,12 @@ use Rattle.foldsound.specs.Removed.{Former, Latter, Outer, Rejoined, Lost, Remo
 use Rattle.foldsound.proofs.Edge.{f-outside, x-outer, y-outer, outer-next, outer-flip, outside-next}
 use Rattle.foldsound.proofs.Steps.{fold-left}
 use Rattle.loopsound.proofs.Ways.{way-live, way-end, way-not-end, way-not-before}
-use Rattle.rings.specs.Ring.{Fixed}
+use Rattle.rings.specs.Ring.{Fixed, ring}
 use Rattle.collapsing.specs.Collapse.{about}
 use Rattle.collapsetold.specs.Plain.{along, meets, PlainRow}
-use Rattle.collapsetold.specs.Collapsed.{About, prop-by, JoinedTwice, Joined, twice, only-former, only-latter, both, Collapsed, CollapsedAway}
+use Rattle.collapsetold.specs.Collapsed.{About, AboutEnd, NoLoop, prop-by, JoinedTwice, Joined, twice, only-former, only-latter, both, Collapsed, CollapsedAway}
 use Rattle.collapsetold.proofs.Plain.{around, about-plain, begun-told, along-other}
-use Rattle.collapsetold.proofs.Ways.{SamePairs, AsCarried, Spares, comes, updated, carried-along, along-kept}
+use Rattle.collapsetold.proofs.Ways.{SamePairs, AsCarried, Spares, Lists, comes, updated, listed, meets-none, carried-along, along-kept}
 
 -- a row outside a triangle, named from another of its rows
 outside-back : {e g : ℕ} → Outside (next e) g → Outside e g
@@ -227,10 +227,43 @@ module _ (H N : ℕ) (R : List ℤ) (P : List ℕ) (thirds : H % 3 ≡ 0) (lent 
       (λ q. row lp .apart-23 (p1-start ∙ sym (way-next w) ∙ ap (startOf R) q ∙ a-start))
       (λ q. row lp .apart-12 (sym b-start ∙ sym (ap (startOf R) q) ∙ way-next w ∙ sym p1-start))
 
+  -- the way about the end, along which the neighbours are listed
+  abbrev lc : Live H R c
+  lc = partner-live H N R thirds in-order (on l)
+
+  end-reached : Reached R c (next (next p))
+  end-reached = reach-sym (moving H N R thirds lent in-order) (on (on lp)) (2, ap (λ (i : ℕ). move R (partner R i)) (next-round p) ∙ ap (move R) (across l))
+
+  pub neighbours : Lists H N R thirds lent in-order (next (next p)) c (ring H (next (next p)) R H c)
+  neighbours =
+      let t = moving H N R thirds lent in-order in
+      let z = period t c lc in
+      let s = soon t c z (end-reached .0) in
+      listed H N R thirds lent in-order (next (next p)) H (s .0) c lc (omega (arith, s .1, z .le)) (s .2 ∙ end-reached .1)
+
+  end-outside : {k : ℕ} → AboutEnd R e k → Outside p k
+  end-outside {k} w =
+      let q : endOf R k ≡ startOf R p = way-end H N R thirds lent in-order lc w ∙ row (on l) .pair-end ∙ e1-start in
+      record {
+        not-first = λ r. row lp .apart-12 (sym q ∙ ap (endOf R) r ∙ row lp .joined);
+        not-second = λ r. row lp .apart-31 (sym (row (on lp) .joined) ∙ sym (ap (endOf R) r) ∙ q);
+        not-third = λ r. way-not-end H N R thirds lent in-order lc (subst (λ (i : ℕ). AboutEnd R e i) r w);
+      }
+
   -- the props are carried
   module _ (capacity : ℕ) (props : Bool) (references : List ℤ) (list : List ℕ) where
     abbrev s : Fixed
     s = around H capacity props references e p list
+
+    pub none-met : list ≡ neighbours .list → NoLoop R e → meets s (length list) H a R1 ≡ false
+    none-met is free = meets-none H N R thirds lent in-order capacity props references e p list (length list) H a R1 la same1 off
+      where
+        off : (g : ℕ) → Way g → (i : ℕ) → i < length list → endOf R1 (next g) ≡ endOf R1 (getD list i 0) → ⊥
+        off g w i b q =
+            let k = neighbours .members i (rw is at b) in
+            free g (k .0) w (k .1 .0)
+            (sym (told1 .ends (next g) (outer-next (way-outer w) .off-other)) ∙ q ∙ ap (λ (m : List ℕ). endOf R1 (getD m i 0)) is ∙ ap (endOf R1) (k .1 .1)
+            ∙ told1 .ends (next (k .0)) (outside-next (end-outside (k .1 .0))))
 
     abbrev R2 : List ℤ
     R2 = along s H a R1

@@ -2,15 +2,16 @@
 -- props, the other updates the vertex. What each leaves of every row, by whether it is on the way.
 use mathlib.Core.Path.{_≡_, refl, sym, ap, _∙_}
 use mathlib.Core.Bool.{Bool, true, false}
-use mathlib.Core.List.{List}
+use mathlib.Core.List.{List, [], _∷_}
 use mathlib.Core.Logic.{_⊎_, inl, inr}
-use Prim.Native.Nat.{ℕ, zero, suc, _%_, _/_, _<_, _≤_}
+use Prim.Native.Nat.{ℕ, zero, suc, _+_, _%_, _/_, _<_, _≤_}
 use native.Mathlib.Decide.{ℕ-discrete}
 use native.Mathlib.Omega.{arith}
 use borrow.Author.Tests.{eqb-true, eqb-false, eq-eqb}
 use lib.Dec.{eqb}
 use lib.IntN.{ℤ, pos}
-use lib.ListN.{length}
+use lib.ListN.{length, getD}
+use Rattle.laws.proofs.Integers.{eqZ-no}
 use Rattle.laws.proofs.Tests.{by-test}
 use Rattle.numbers.specs.Numbers.{Named, at, nothing, names, named-or}
 use Rattle.numbers.specs.Next.{next}
@@ -27,9 +28,9 @@ use Rattle.walks.specs.Walk.{onward, moved, walk}
 use Rattle.walks.specs.Way.{move, OnWay}
 use Rattle.walks.proofs.Kept.{length-moved, other-moved}
 use Rattle.walks.proofs.Told.{moved-end, moved-start, unmoved-end, unmoved-start, move-live, AsTold, way-on}
-use Rattle.rings.specs.Ring.{Fixed, carried}
+use Rattle.rings.specs.Ring.{Listing, ringed, listed-first, ring, carried, find, Fixed}
 use Rattle.rings.proofs.Kept.{carried-kept}
-use Rattle.collapsetold.specs.Plain.{carry, along}
+use Rattle.collapsetold.specs.Plain.{carry, along, meets}
 use Rattle.collapsetold.specs.Collapsed.{prop-by}
 use Rattle.collapsetold.proofs.Plain.{around, carried-other}
 
@@ -74,6 +75,13 @@ module _ (props : Bool) (references : List ℤ) (e p h : ℕ) (l : List ℤ) whe
         go : Dec (g ≡ h) → prop-by props references e p c g ≡ prop-by props references e p l g
         go (yes q) = ap (prop-by props references e p c) q ∙ rule-here ∙ ap (prop-by props references e p l) (sym q)
         go (no q) = rw (carried-off (next e) (λ r. n (sym r)), carried-off p (λ r. m (sym r)), carried-off g q)
+
+-- a search that finds none
+find-nowhere : (rows : List ℤ) (z : ℤ) (list : List ℕ) (n k : ℕ) → ((i : ℕ) → k ≤ i → i < k + n → z ≡ endOf rows (getD list i 0) → ⊥) → find rows z list k n ≡ nothing
+unfolding find
+find-nowhere rows z list zero k off = refl
+find-nowhere rows z list (suc n) k off =
+    rw (eqZ-no z (endOf rows (getD list k 0)) (off k (omega arith) (omega arith))) (find-nowhere rows z list n (k + 1) (λ i b c. off i (omega arith) (omega arith)))
 
 module _ (H N : ℕ) (R : List ℤ) (thirds : H % 3 ≡ 0) (lent : H ≤ lent-halfedges R) (in-order : (h : ℕ) → h < H → InOrder H N R h) where
   module _ (to : ℕ) where
@@ -153,6 +161,30 @@ module _ (H N : ℕ) (R : List ℤ) (thirds : H % 3 ≡ 0) (lent : H ≤ lent-ha
                 )
             by-row (no q) = inr (λ x. w .0 (way-back q x), (w .1 .0 ∙ unmoved-end v here l g q, w .1 .1 ∙ unmoved-start v here l g q))
 
+    -- what the walk lists: the nexts of the rows on its way
+    pub record Lists (here : ℕ) (x : Listing) : Type 0 where
+      pub list : List ℕ
+      pub is : x ≡ ringed list
+      pub members : (i : ℕ) → i < length list → (k : ℕ) × (OnWay R here to k × (getD list i 0 ≡ next k))
+
+    pub listed : (n k here : ℕ) → Live H R here → k ≤ n → iter (move R) k here ≡ to → Lists here (ring H to R n here)
+    unfolding ring
+    listed zero k here a b e =
+        let t = eq-eqb here to (ap (λ (i : ℕ). iter (move R) i here) (let z : 0 ≡ k = omega arith in z) ∙ e) in
+        rw t (record { list = []; is = refl; members = λ i c. absurd (omega arith) })
+    listed (suc n) k here a b e =
+        by-test (eqb here to)
+        (λ t. rw t (record { list = []; is = refl; members = λ i c. absurd (omega arith) }))
+        (λ t. rw (t, goes R (λ g w. refl) a (eqb-false here to t))
+        (more (eqb-false here to t) (ring H to R n (move R here)) (listed n (fewer here n k (eqb-false here to t) b e .0) (move R here) (live-on a) (fewer here n k (eqb-false here to t) b e .1 .0) (fewer here n k (eqb-false here to t) b e .1 .1))))
+      where
+        more : (here ≡ to → ⊥) → (x : Listing) → Lists (move R here) x → Lists here (listed-first (next here) x)
+        more m x w = record { list = next here ∷ w .list; is = rw (w .is); members = each }
+          where
+            each : (i : ℕ) → i < length (next here ∷ w .list) → (k : ℕ) × (OnWay R here to k × (getD (next here ∷ w .list) i 0 ≡ next k))
+            each zero c = (here, (on-way m refl, refl))
+            each (suc i) c = let z = w .members i (omega arith) in (z .0, (way-on H N R thirds lent in-order m (z .1 .0), z .1 .1))
+
   -- the walk that carries props
   module _ (capacity : ℕ) (props : Bool) (references : List ℤ) (e p : ℕ) (list : List ℕ) where
     abbrev s : Fixed
@@ -200,6 +232,25 @@ module _ (H N : ℕ) (R : List ℤ) (thirds : H % 3 ≡ 0) (lent : H ≤ lent-ha
               w .1 ∙ ap (λ (i : ℕ). propOf (carry s here l) (next i)) r ∙ carried-here props references e p (next here) l room ∙ ap (λ (i : ℕ). prop-by props references e p l (next i)) (sym r),
             )
             by-row (no r) = inr (λ x. w .0 (way-back (next (next e)) r x), w .1 ∙ carried-off props references e p (next here) l (next g) (λ z. r (next-inj g here z)))
+
+    -- a walk whose nexts end nowhere where a listed row does meets none
+    pub meets-none : (len n here : ℕ) (l : List ℤ) → Live H R here → SamePairs (next (next e)) here l →
+        ((g : ℕ) → OnWay R here (next (next e)) g → (i : ℕ) → i < len → endOf l (next g) ≡ endOf l (getD list i 0) → ⊥) → meets s len n here l ≡ false
+    unfolding meets
+    meets-none len zero here l a same off = refl
+    meets-none len (suc n) here l a same off =
+        by-test (eqb here (next (next e)))
+        (λ t. rw t)
+        (λ t. rw (t, goes (next (next e)) (carry s here l) (carry-same here l same) a (eqb-false here (next (next e)) t), nowhere (eqb-false here (next (next e)) t))
+        (meets-none len n (move R here) (carry s here l) (live-on (next (next e)) a)
+        (λ i w. carry-same here l same i (way-on H N R thirds lent in-order (eqb-false here (next (next e)) t) w))
+        (λ g w i c q. off g (way-on H N R thirds lent in-order (eqb-false here (next (next e)) t) w) i c (sym (ends (next g)) ∙ q ∙ ends (getD list i 0)))))
+      where
+        ends : (g : ℕ) → endOf (carry s here l) g ≡ endOf l g
+        ends g = carried-other end (λ q. omega arith) props references e p (next here) g l
+
+        nowhere : (here ≡ next (next e) → ⊥) → find (carry s here l) (endOf (carry s here l) (next here)) list 0 len ≡ nothing
+        nowhere m = find-nowhere (carry s here l) (endOf (carry s here l) (next here)) list len 0 (λ i c d q. off here (on-way (next (next e)) m refl) i (omega arith) (sym (ends (next here)) ∙ q ∙ ends (getD list i 0)))
 
     -- the free rows, and how many there are
     pub along-kept : (n here : ℕ) (l : List ℤ) → here < H → (rows-from H (along s n here l) ≡ rows-from H l) × (length (along s n here l) ≡ length l)

@@ -2,23 +2,34 @@
 -- goes from the partner of p's next by moves to the third row of e's triangle. `rows` and `positions` are the arrays at entry, `between`
 -- and `later` those before anything is folded.
 use mathlib.Core.Bool.{Bool, cond}
-use mathlib.Core.List.{List}
+use mathlib.Core.List.{List, [], _∷_}
 use mathlib.Core.Path.{_≡_}
 use Prim.Native.Nat.{ℕ, _/_, _<_}
 use lib.IntN.{ℤ, pos}
 use lib.ListN.{length}
+use Rattle.answers.specs.Answers.{whole, done}
+use Rattle.laws.specs.Stretches.{cleared}
 use Rattle.numbers.specs.Next.{next}
-use Rattle.rows.specs.Halfedges.{startOf, endOf, pairOf, propOf, rows-from}
-use Rattle.rows.specs.Triples.{reference, same-face}
+use Rattle.rows.specs.Halfedges.{startOf, endOf, pairOf, propOf, rows-from, over-rows}
+use Rattle.rows.specs.Triples.{reference, same-face, over-triples}
 use Rattle.net.specs.Sound.{start-vertex, partner, DeadRow, InOrder, Live}
 use Rattle.steps.specs.Steps.{begin}
 use Rattle.walks.specs.Way.{move, OnWay}
 use Rattle.folds.specs.Folds.{fold}
 use Rattle.foldsound.specs.Removed.{Former, Latter, Outer, Rejoined, Lost, Removed}
+use Rattle.collapse.specs.CollapseEdge.{Left}
 
 -- the other rows of the start's fan, by the rows before them: each such g ends at the start, and its next starts there
 abbrev pub About : List ℤ → ℕ → ℕ → Type 0
 About rows e g = OnWay rows (move rows (partner rows e)) (next (next e)) g
+
+-- the rows about the end by whose nexts the neighbours are listed: from where the edge moves to up to the third row of p's triangle
+abbrev pub AboutEnd : List ℤ → ℕ → ℕ → Type 0
+AboutEnd rows e k = OnWay rows (move rows e) (next (next (partner rows e))) k
+
+-- no loop is formed: no neighbour on the one way is one on the other
+abbrev pub NoLoop : List ℤ → ℕ → Type 0
+NoLoop rows e = (g k : ℕ) → About rows e g → AboutEnd rows e k → endOf rows (next g) ≡ endOf rows (next k) → ⊥
 
 -- the prop of row h by the rule: where props are carried and h is of the edge's face, that of the edge's next; else of the partner's face,
 -- that of the partner; else its own
@@ -81,3 +92,12 @@ pub record CollapsedAway (H N e : ℕ) (props : Bool) (references rows after : L
   pub removed : ((h : ℕ) → h < H → InOrder H N between h) → Live H between (move rows (partner rows e)) →
       Removed H N (move rows (partner rows e)) (partner between (move rows (partner rows e))) between after later last
   pub not-folded : Latter rows e (partner rows e) → (after ≡ between) × (last ≡ later)
+
+-- 0 of the entry: as many vertices are in use as before; the spares hold the rows in use as at entry, and the list reads zero over the
+-- half-edge capacity
+pub record Done (H N capacity e : ℕ) (props : Bool) (references rows : List ℤ) (positions : List ℕ) (saved : List ℤ) (held list : List ℕ) (o : Left) : Type 0 where
+  pub said : o .said ≡ done (whole (pos N) ∷ [])
+  pub away : CollapsedAway H N e props references rows (o .halfedges) positions (o .positions)
+  pub rows-saved : o .saved ≡ over-rows H rows saved
+  pub positions-held : o .held ≡ over-triples N positions held
+  pub list-cleared : o .list ≡ cleared capacity list
