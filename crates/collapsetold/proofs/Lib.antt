@@ -2,4 +2,5 @@ pub mod Plain
 pub mod Ways
 pub mod Collapsed
 pub mod Told
+pub mod Done
 pub mod Cases

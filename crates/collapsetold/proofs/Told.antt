@@ -210,7 +210,7 @@ module _ (c : Counts) (n : Net) (saved : List ℤ) (held list : List ℕ) (t : T
     abbrev test : Said
     test = between (n .positions) t (start-vertex rows e) (end-vertex rows e)
 
-    judge-live : judge H N rows (n .positions) t e ≡ short-or (partner rows e) (end-vertex rows e) test
+    pub judge-live : judge H N rows (n .positions) t e ≡ short-or (partner rows e) (end-vertex rows e) test
     unfolding judge
     judge-live =
         let r = live-row H N rows thirds in-order l in
@@ -238,7 +238,7 @@ module _ (c : Counts) (n : Net) (saved : List ℤ) (held list : List ℕ) (t : T
     abbrev result : Left
     result = collapseEdge c n saved held list halfedge t
 
-    reached : (s : Sound c n) → Lends → (e : ℕ) → halfedge ≡ pos e → (l : Live H rows e) →
+    pub reached : (s : Sound c n) → Lends → (e : ℕ) → halfedge ≡ pos e → (l : Live H rows e) →
         result ≡ judged-by (s .shaped .thirds) (s .in-order) e l (between (n .positions) t (start-vertex rows e) (end-vertex rows e))
     unfolding collapseEdge collapseNamed
     reached s b e q l =

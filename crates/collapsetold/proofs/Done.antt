@@ -1,0 +1,160 @@
+-- What 0 of collapse_edge leaves where no loop is formed, in words, of its entry: on a sound net, at a live edge.
+use mathlib.Core.Path.{_≡_, refl, sym, ap, _∙_}
+use mathlib.Core.Bool.{Bool, true, false}
+use mathlib.Core.List.{List, [], _∷_}
+use Prim.Native.Nat.{ℕ}
+use native.Mathlib.Omega.{arith}
+use borrow.Author.Tests.{eqb-false}
+use lib.Dec.{eqb}
+use lib.IntN.{ℤ, pos}
+use Rattle.answers.specs.Answers.{Said, whole, done}
+use Rattle.laws.specs.Stretches.{cleared}
+use Rattle.laws.proofs.Tests.{by-test}
+use Rattle.numbers.specs.Numbers.{at}
+use Rattle.numbers.specs.Next.{next}
+use Rattle.numbers.proofs.Names.{names-at}
+use Rattle.rows.specs.Halfedges.{pairOf, over-rows}
+use Rattle.rows.specs.Triples.{over-triples}
+use Rattle.net.specs.declared.Counts.{Counts}
+use Rattle.net.specs.Net.{Net}
+use Rattle.net.specs.Counts.{halfedge-capacity, vertex-capacity-over}
+use Rattle.net.specs.Sound.{start-vertex, end-vertex, partner, Live, Sound}
+use Rattle.net.proofs.Shape.{Within, within}
+use Rattle.net.proofs.Sound.{live-row, next-live, partner-live}
+use Rattle.steps.specs.declared.How.{How}
+use Rattle.steps.specs.declared.How.the-variants as W
+use Rattle.steps.specs.declared.Run.{Run}
+use Rattle.steps.specs.Steps.{Middle, begin, is-refused, refused, how-said}
+use Rattle.steps.specs.Settle.{settled}
+use Rattle.walks.specs.Walk.{onward}
+use Rattle.walks.specs.Way.{move}
+use Rattle.rings.proofs.Vertices.{fold-same}
+use Rattle.collapsing.specs.declared.Tolerance.{Tolerance}
+use Rattle.collapsing.specs.Collapse.{between, ran, short-at, about, collapse-at}
+use Rattle.collapse.specs.CollapseEdge.{Left, left, left-by, to-settle, collapseSettled, carries-props, collapseEdge}
+use Rattle.collapsetold.specs.Collapsed.{NoLoop, CollapsedAway, Done}
+use Rattle.collapsetold.proofs.Collapsed.{neighbours, none-met, folds, away}
+use Rattle.collapsetold.proofs.Told.{Lends, judge-live, reached}
+
+-- 0 is said of steps that were not refused, with the vertices in use
+how-zero : (u : ℕ) (w : How) → how-said u w .number ≡ 0 → is-refused w ≡ false
+how-zero u W.Going q = refl
+how-zero u W.NoRoom q = absurd (omega (arith, q))
+how-zero u W.Stopped q = absurd (omega (arith, q))
+
+how-done : (u : ℕ) (w : How) → how-said u w .number ≡ 0 → how-said u w ≡ done (whole (pos u) ∷ [])
+how-done u W.Going q = refl
+how-done u W.NoRoom q = absurd (omega (arith, q))
+how-done u W.Stopped q = absurd (omega (arith, q))
+
+-- what is settled ran as the steps did, and is what they left where they were not refused
+settled-run : (N : ℕ) (rows : List ℤ) (positions : List ℕ) (m : Middle) → settled N rows positions m .run ≡ m .run
+settled-run N rows positions m = by-test (refused m) (λ t. rw t) (λ t. rw t)
+
+settled-going : (N : ℕ) (rows : List ℤ) (positions : List ℕ) (m : Middle) → refused m ≡ false → settled N rows positions m ≡ m
+settled-going N rows positions m r = rw r
+
+settle-ran : (m : Middle) → to-settle (ran m) ≡ m
+settle-ran m = by-test (refused m) (λ t. rw t) (λ t. rw t)
+
+module _ (c : Counts) (n : Net) (saved : List ℤ) (held list : List ℕ) (t : Tolerance) (halfedge : ℤ) where
+  abbrev H : ℕ
+  H = c .halfedges
+
+  abbrev N : ℕ
+  N = c .vertices
+
+  abbrev rows : List ℤ
+  rows = n .halfedges
+
+  abbrev positions : List ℕ
+  positions = n .positions
+
+  abbrev result : Left
+  result = collapseEdge c n saved held list halfedge t
+
+  module _ (sound : Sound c n) (lends : Lends c n saved held list t) (e : ℕ) (is-e : halfedge ≡ pos e) (l : Live H rows e) where
+    abbrev w : Within c n
+    w = within c n (sound .shaped)
+
+    abbrev p : ℕ
+    p = partner rows e
+
+    abbrev v : ℕ
+    v = end-vertex rows e
+
+    abbrev capacity : ℕ
+    capacity = vertex-capacity-over positions
+
+    abbrev test : Said
+    test = between positions t (start-vertex rows e) v
+
+    -- the neighbours of the end, as they are listed
+    abbrev neighbours-listed : List ℕ
+    neighbours-listed = neighbours H N rows positions (w .halfedges-thirds) (w .halfedges-lent) (w .vertices-most) (sound .in-order) (w .vertices-lent) e l .list
+
+    abbrev steps : Middle
+    steps = about H capacity (carries-props c) (n .references) v e p (move rows p) neighbours-listed (begin rows positions N)
+
+    abbrev left-at : Middle → Left
+    left-at m = left-by (over-rows H rows saved) (over-triples N positions held) (cleared (halfedge-capacity c n) list) m
+
+    onward-from : {h : ℕ} → Live H rows h → onward H rows h ≡ at (move rows h)
+    unfolding onward
+    onward-from {h} m =
+        let k = next-live H N rows (w .halfedges-thirds) (sound .in-order) m in
+        names-at (pairOf rows (next h)) H (move rows h) (k .paired) (live-row H N rows (w .halfedges-thirds) (sound .in-order) k .pair-in)
+
+    listing : short-at H capacity (carries-props c) (n .references) v e p (begin rows positions N) ≡ steps
+    unfolding short-at
+    listing =
+        rw (
+          onward-from (partner-live H N rows (w .halfedges-thirds) (sound .in-order) l),
+          onward-from l,
+          neighbours H N rows positions (w .halfedges-thirds) (w .halfedges-lent) (w .vertices-most) (sound .in-order) (w .vertices-lent) e l .is,
+        )
+
+    module _ (said-0 : result .said .number ≡ 0) where
+      short : eqb (test .number) 0 ≡ true
+      short = by-test (eqb (test .number) 0) (λ b. b) (λ b. absurd (eqb-false (test .number) 0 b (sym (ap (λ (o : Left). o .said .number) (refuses b)) ∙ said-0)))
+        where
+          refuses : eqb (test .number) 0 ≡ false → result ≡ left test rows positions saved held list
+          refuses b = reached c n saved held list t halfedge sound lends e is-e l ∙ rw b
+
+      tries : collapse-at H capacity (carries-props c) (n .references) t e (begin rows positions N) ≡ ran (short-at H capacity (carries-props c) (n .references) v e p (begin rows positions N))
+      unfolding collapse-at
+      tries = rw (judge-live c n saved held list t (w .halfedges-thirds) (sound .in-order) e l, short)
+
+      passes : result ≡ collapseSettled H N capacity (halfedge-capacity c n) (carries-props c) (n .references) t e rows positions saved held list
+      passes = reached c n saved held list t halfedge sound lends e is-e l ∙ rw short
+
+      settles : result ≡ left-at (settled N rows positions steps)
+      unfolding collapseSettled
+      settles =
+          passes
+          ∙ ap (λ (m : Middle). left-at (settled N rows positions m)) (ap to-settle tries ∙ settle-ran (short-at H capacity (carries-props c) (n .references) v e p (begin rows positions N)) ∙ listing)
+
+      zero-said : how-said (steps .run .vertices) (steps .run .how) .number ≡ 0
+      zero-said =
+          sym (ap (λ (r : Run). how-said (r .vertices) (r .how) .number) (settled-run N rows positions steps))
+          ∙ sym (ap (λ (o : Left). o .said .number) settles) ∙ said-0
+
+      went : refused steps ≡ false
+      went = how-zero (steps .run .vertices) (steps .run .how) zero-said
+
+      leaves : result ≡ left-at steps
+      leaves = settles ∙ ap left-at (settled-going N rows positions steps went)
+
+      -- where no loop is formed
+      pub collapse-done : NoLoop rows e → Done H N (halfedge-capacity c n) e (carries-props c) (n .references) rows positions saved held list result
+      collapse-done free =
+          let no-loop = none-met H N rows positions (w .halfedges-thirds) (w .halfedges-lent) (w .vertices-most) (sound .in-order) (w .vertices-lent) e l capacity (carries-props c) (n .references) neighbours-listed refl free in
+          let f = folds H N rows positions (w .halfedges-thirds) (w .halfedges-lent) (w .vertices-most) (sound .in-order) (w .vertices-lent) e l capacity (carries-props c) (n .references) neighbours-listed no-loop went in
+          let same : steps .run .vertices ≡ N = ap (λ (m : Middle). m .run .vertices) f ∙ fold-same H (move rows p) _ in
+          rw leaves (record {
+            said = how-done (steps .run .vertices) (steps .run .how) zero-said ∙ ap (λ (u : ℕ). done (whole (pos u) ∷ [])) same;
+            away = away H N rows positions (w .halfedges-thirds) (w .halfedges-lent) (w .vertices-most) (sound .in-order) (w .vertices-lent) e l capacity (carries-props c) (n .references) neighbours-listed no-loop went;
+            rows-saved = refl;
+            positions-held = refl;
+            list-cleared = refl;
+          })
