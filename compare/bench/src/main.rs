@@ -16,7 +16,8 @@ use chance::Chance;
 use lent::Lent;
 use original::edge_op;
 use original::impl_mesh::ManifoldImpl;
-use spoonferret::raw;
+use spoonferret::{edge_op as safe, raw};
+use std::collections::HashMap;
 use std::fmt::Write;
 use std::hint::black_box;
 use std::time::Instant;
@@ -39,7 +40,7 @@ struct Course {
     folded: usize,
 }
 
-/// One entry beside what the Rust does in its place. Each call leaves the net as it was: what surgery changed is put back.
+/// One entry beside what is done in its place. Each call leaves the net as it was: what surgery changed is put back.
 struct Race {
     entry: &'static str,
     beside: &'static str,
@@ -56,7 +57,7 @@ struct Race {
 const RACES: &[Race] = &[
     Race {
         entry: "check_net",
-        beside: "split_pinched_verts",
+        beside: "the Rust's split_pinched_verts",
         ours: check_net,
         theirs: |c| edge_op::split_pinched_verts(&mut c.mesh),
         shares: &[],
@@ -65,7 +66,7 @@ const RACES: &[Race] = &[
     },
     Race {
         entry: "split_pinched_verts",
-        beside: "split_pinched_verts",
+        beside: "the Rust's split_pinched_verts",
         ours: split_pinched_verts,
         theirs: |c| edge_op::split_pinched_verts(&mut c.mesh),
         shares: &[("soundness", check_net), ("clearing", clear_words)],
@@ -74,7 +75,7 @@ const RACES: &[Race] = &[
     },
     Race {
         entry: "orbit_owners",
-        beside: "orbit_owners",
+        beside: "the Rust's orbit_owners",
         ours: orbit_owners,
         theirs: |c| assert!(black_box(parallel::edge_op::private::orbit_owners(&c.rows, false)).is_some()),
         shares: &[("clearing", clear_bytes)],
@@ -83,7 +84,7 @@ const RACES: &[Race] = &[
     },
     Race {
         entry: "orbit_owners",
-        beside: "orbit_owners, made one after another",
+        beside: "the Rust's orbit_owners, made one after another",
         ours: orbit_owners,
         theirs: |c| assert!(black_box(sequential::edge_op::private::orbit_owners(&c.sequential_rows, false)).is_some()),
         shares: &[("clearing", clear_bytes)],
@@ -92,7 +93,7 @@ const RACES: &[Race] = &[
     },
     Race {
         entry: "update_vert",
-        beside: "update_vert",
+        beside: "the Rust's update_vert",
         ours: update_vert,
         theirs: |c| edge_op::update_vert(&mut c.mesh, c.net.halfedges[4 * c.from + 1], c.from, c.to),
         shares: &[("soundness", check_net)],
@@ -101,7 +102,7 @@ const RACES: &[Race] = &[
     },
     Race {
         entry: "collapse_tri",
-        beside: "collapse_tri",
+        beside: "the Rust's collapse_tri",
         ours: collapse_tri,
         theirs: |c| {
             let rows = touched(&c.net, c.from);
@@ -117,7 +118,7 @@ const RACES: &[Race] = &[
     },
     Race {
         entry: "remove_if_folded",
-        beside: "remove_if_folded",
+        beside: "the Rust's remove_if_folded",
         ours: remove_if_folded,
         theirs: |c| {
             let kept: [_; 6] = c.mesh.halfedge[c.folded..].try_into().expect("six rows");
@@ -130,7 +131,7 @@ const RACES: &[Race] = &[
     },
     Race {
         entry: "form_loop",
-        beside: "form_loop",
+        beside: "the Rust's form_loop",
         ours: form_loop,
         theirs: |c| {
             edge_op::form_loop(&mut c.mesh, c.from, c.from);
@@ -140,7 +141,53 @@ const RACES: &[Race] = &[
         constant: true,
         wanted: &[],
     },
+    Race {
+        entry: "the crate's split_pinched_verts",
+        beside: "split_pinched_verts",
+        ours: |c| safe::split_pinched_verts(&mut c.mesh).expect("a sound net"),
+        theirs: split_pinched_verts,
+        shares: &[],
+        constant: false,
+        wanted: &[("in order", 1.1), ("shuffled", 1.1)],
+    },
+    Race {
+        entry: "the crate's form_loop",
+        beside: "form_loop",
+        ours: |c| {
+            safe::form_loop(&mut c.mesh, c.from, c.from).expect("a sound net");
+            c.mesh.vert_pos.truncate(c.net.used.vertices);
+        },
+        theirs: form_loop,
+        shares: &[],
+        constant: false,
+        wanted: &[("in order", 1.1), ("shuffled", 1.1)],
+    },
 ];
+
+spoonferret::layout! {
+    /// The rows of the Rust's mesh, as the crate works on them.
+    struct Rows;
+    halfedge: original::types::Halfedge { start_vert, end_vert, paired_halfedge, prop_vert },
+    vector: original::linalg::Vec3 { x, y, z },
+    reference: original::types::TriRef { mesh_id, coplanar_id, face_id },
+}
+
+impl safe::Mesh<Rows> for ManifoldImpl {
+    fn net(&mut self) -> spoonferret::NetMut<'_, Rows> {
+        spoonferret::NetMut {
+            halfedges: &mut self.halfedge,
+            positions: &mut self.vert_pos,
+            normals: &mut self.face_normal,
+            references: &mut self.mesh_relation.tri_ref,
+            properties: &self.properties,
+            num_prop: self.num_prop,
+        }
+    }
+
+    fn epsilon(&self) -> f64 {
+        self.epsilon
+    }
+}
 
 /// Calls an entry of the library: the counts, the five arrays, and what else it takes.
 macro_rules! call {
@@ -346,6 +393,7 @@ fn timed(times: usize, course: &mut Course, f: fn(&mut Course)) -> f64 {
 }
 
 /// Nanoseconds of one call, over the rounds.
+#[derive(Clone)]
 struct Time {
     best: f64,
     middle: f64,
@@ -361,26 +409,42 @@ impl Time {
     fn of_each(&self, count: f64) -> String {
         format!("{:.2} / {:.2}", self.best / count, self.middle / count)
     }
+
+    /// Best and middle of a call, in the unit that the best wants.
+    fn of_a_call(&self) -> String {
+        let (unit, name) = [(1e6, "ms"), (1e3, "µs")].into_iter().find(|(unit, _)| self.best >= *unit).unwrap_or((1.0, "ns"));
+        format!("{} {name}", self.of_each(unit))
+    }
 }
 
-/// Times of one entry on one net: ours, the Rust's, and each share by itself. A round has each of them once, long enough to be timed; at least
-/// fifteen rounds, at most sixty, and past fifteen no new one after three seconds.
-fn raced(race: &Race, course: &mut Course) -> (Time, Time, Vec<Time>) {
+/// What was timed on each net, by its name: one figure for one thing, in whatever tables it stands.
+type Known = HashMap<(String, usize), Time>;
+
+/// Times of one entry on one net: ours, what it is beside, and each share by itself; what is known already is not timed again. A round has each of them once, long enough to
+/// be timed; at least fifteen rounds, at most sixty, and past fifteen no new one after three seconds.
+fn raced(race: &Race, course: &mut Course, number: usize, known: &mut Known) -> (Time, Time, Vec<Time>) {
     let times = (200_000 / course.net.used.halfedges).max(1);
-    let mut runs = vec![(race.ours, times), (race.theirs, if race.constant { 1_000 } else { times })];
-    runs.extend(race.shares.iter().map(|&(_, share)| (share, times)));
-    let mut rounds = vec![vec![]; runs.len()];
+    let mut runs = vec![(race.entry.to_string(), race.ours, times), (race.beside.to_string(), race.theirs, if race.constant { 1_000 } else { times })];
+    for &(name, share) in race.shares {
+        let name = if name == "soundness" { "check_net".into() } else { format!("{name} of {}", race.entry) };
+        runs.push((name, share, times));
+    }
+    let new: Vec<_> = runs.iter().filter(|(name, ..)| !known.contains_key(&(name.clone(), number))).collect();
+    let mut rounds = vec![vec![]; new.len()];
     let began = Instant::now();
     for round in 0..60 {
-        if round >= 15 && began.elapsed().as_secs() >= 3 {
+        if round >= 15 && began.elapsed().as_secs() >= 3 || new.is_empty() {
             break;
         }
-        for (taken, &(f, times)) in rounds.iter_mut().zip(&runs) {
-            taken.push(timed(times, course, f));
+        for (taken, (_, f, times)) in rounds.iter_mut().zip(&new) {
+            taken.push(timed(*times, course, *f));
         }
     }
-    let mut taken = rounds.into_iter().map(Time::of);
-    (taken.next().expect("ours"), taken.next().expect("the Rust's"), taken.collect())
+    for (taken, (name, ..)) in rounds.into_iter().zip(&new) {
+        known.insert((name.clone(), number), Time::of(taken));
+    }
+    let mut all = runs.iter().map(|(name, ..)| known[&(name.clone(), number)].clone());
+    (all.next().expect("ours"), all.next().expect("what it is beside"), all.collect())
 }
 
 fn main() {
@@ -393,30 +457,33 @@ fn run(words: &[String]) {
     let most = words.get(2).and_then(|w| w.parse().ok()).unwrap_or(1_000_000);
     let mut courses = courses(most, &mut Chance::new(1));
     let mut page = String::from(OPENING);
+    let _ = writeln!(page, "\nProcessor: {}. Compilers: {}.", processor(), words.get(3).map_or("not named", String::as_str));
     let mut curves = vec![];
+    let mut known = Known::new();
     for race in RACES {
         let shares: String = race.shares.iter().map(|(name, _)| format!(" of which {name} |")).collect();
+        let each = if race.constant { "a call" } else { "ns a half-edge" };
         let _ = write!(
             page,
-            "\n## {} beside the Rust's {}\n\n| net | half-edges | {}, ns a half-edge |{}{}\n|---|---|---|{}---|---|\n",
+            "\n## {} beside {}\n\n| net | half-edges | {}, {each} |{shares}{}\n|---|---|---|{}---|---|\n",
             race.entry,
             race.beside,
             race.entry,
-            shares,
-            if race.constant { format!(" these of the whole | Rust's {}, ns a call |", race.beside) } else { format!(" Rust's {}, ns a half-edge | ratio |", race.beside) },
+            if race.constant { format!(" these of the whole | {}, a call |", race.beside) } else { format!(" {}, ns a half-edge | ratio |", race.beside) },
             "---|".repeat(race.shares.len())
         );
-        eprintln!("{} beside the Rust's {}", race.entry, race.beside);
+        eprintln!("{} beside {}", race.entry, race.beside);
         let mut wanted = vec![];
-        for course in &mut courses {
+        for (number, course) in courses.iter_mut().enumerate() {
             let rows = course.net.used.halfedges as f64;
-            let (ours, theirs, shares) = raced(race, course);
-            let shown: String = shares.iter().map(|s| format!(" {} |", s.of_each(rows))).collect();
+            let (ours, theirs, shares) = raced(race, course, number, &mut known);
+            let cell = |time: &Time| if race.constant { time.of_a_call() } else { time.of_each(rows) };
+            let shown: String = shares.iter().map(|s| format!(" {} |", cell(s))).collect();
             let apart = Time { best: shares.iter().map(|s| s.best).sum(), middle: shares.iter().map(|s| s.middle).sum() };
             let (over, under) = if race.constant { (&apart, &ours) } else { (&ours, &theirs) };
             let ratio = Time { best: over.best / under.best, middle: over.middle / under.middle };
-            let (one, other) = if race.constant { (ratio.of_each(1.0), theirs.of_each(1.0)) } else { (theirs.of_each(rows), ratio.of_each(1.0)) };
-            let line = format!("| {} | {} | {} |{shown} {one} | {other} |", course.name, with_commas(rows as usize), ours.of_each(rows));
+            let (one, other) = if race.constant { (ratio.of_each(1.0), cell(&theirs)) } else { (cell(&theirs), ratio.of_each(1.0)) };
+            let line = format!("| {} | {} | {} |{shown} {one} | {other} |", course.name, with_commas(rows as usize), cell(&ours));
             eprintln!("{line}");
             let _ = writeln!(page, "{line}");
             if let Some((order, most)) = race.wanted.iter().find(|(order, _)| course.name == format!("torus of 1,000,000 triangles, {order}")) {
@@ -424,14 +491,14 @@ fn run(words: &[String]) {
                 wanted.push(format!("{order} at most {most:.2}, and it is {}{beyond}", ratio.of_each(1.0)));
             }
             // the other three of surgery take the time of check_net, and the Rust's split is there once
-            let drawn = !race.constant || race.entry == "form_loop";
+            let drawn = !race.entry.starts_with("the crate's") && (!race.constant || race.entry == "form_loop");
             if let Some(curve) = course.curve.filter(|_| drawn) {
                 // orbit_owners runs twice
-                if race.beside != "orbit_owners, made one after another" {
+                if race.beside != "the Rust's orbit_owners, made one after another" {
                     curves.push((race.entry.to_string(), curve, rows / 3.0, ours.best));
                 }
                 if !race.constant && race.entry != "check_net" {
-                    curves.push((format!("Rust's {}", race.beside), curve, rows / 3.0, theirs.best));
+                    curves.push((race.beside.to_string(), curve, rows / 3.0, theirs.best));
                 }
             }
         }
@@ -444,11 +511,22 @@ fn run(words: &[String]) {
     std::fs::write(folder.join("speed.svg"), plot::drawn(&curves)).expect("the plot is written");
 }
 
+/// The processor's name, as Linux has it.
+fn processor() -> String {
+    let text = std::fs::read_to_string("/proc/cpuinfo").unwrap_or_default();
+    let name = text.lines().find_map(|line| line.strip_prefix("model name")?.split_once(':').map(|(_, name)| name.trim().to_string()));
+    name.unwrap_or_else(|| "not named".into())
+}
+
 const OPENING: &str = "# Speed
 
 `scripts/bench` writes this page: both sides in one run on the same nets, by turns, one thread, release builds. A time is the thread's own, so that other programs on the machine cost \
-it cache and no waiting; each cell has the best and the middle of at least 15 rounds, and a ratio is that of the two bests and that of the two middles. Each net has \
-two folded triangles besides, and no vertex of it is pinched.
+it cache and no waiting; each cell has the best and the middle of at least 15 rounds, and a ratio is that of the two bests and that of the two middles. What stands in several \
+tables was timed once. Each net has two folded triangles besides, and no vertex of it is pinched.
+
+**A step of surgery costs a pass over the net.** update_vert, collapse_tri, remove_if_folded and form_loop read the whole net before they touch it, to refuse one that is not sound; the Rust's touch a \
+few rows. On a million triangles that is milliseconds beside nanoseconds, whatever the edge. It is the price of a call that may be made on any net at any time. A job uses what goes over the \
+whole net in one call (split_pinched_verts, dedupe_edges, cleanup_topology), where the check is a share of the work; a loop over edges wants a batch, which comes by request.
 
 What the Rust does not do is shown by itself, as the time of work of the same size: soundness is check_net on the same net, the spare a copy of the half-edge \
 and position rows in use, clearing the two fills of the work buffer.
@@ -471,4 +549,7 @@ orbit_owners is for nets that need not be sound, so it has no such check; it cle
 The four operations of surgery are asked at one half-edge, and what they change is put back before the next call. The Rust's calls touch a few rows and take the same time \
 whatever the net; ours read the whole net first, to refuse one that is not sound, and form_loop copies it into the spare, to put it back where it is refused. So their time is that \
 of these shares: their own work is too small beside it to be measured here.
+
+The Rust crate's calls are those of its module edge_op over the Rust's own mesh, in kept buffers, beside the library's own functions on arrays of the same rows: what the crate adds is the room that it \
+lends and clears, and the answer turned into a Result.
 ";

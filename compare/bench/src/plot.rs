@@ -6,20 +6,24 @@ const COLOURS: [&str; 7] = ["#1b6ca8", "#c0392b", "#e59866", "#27ae60", "#7dcea0
 
 /// Points of named curves, in order or shuffled (dashed): size in triangles, time in nanoseconds.
 pub fn drawn(points: &[(String, &str, f64, f64)]) -> String {
-    let (left, top, width, height) = (70.0, 20.0, 480.0, 330.0);
-    let (x0, x1) = (3.0, 6.0);
+    let (left, top, width, height) = (90.0, 40.0, 480.0, 330.0);
+    // a little more than the sizes, so that each point is inside
+    let size = |pick: fn(f64, f64) -> f64, from: f64| points.iter().map(|p| p.2.log10()).fold(from, pick);
+    let (x0, x1) = (size(f64::min, 6.0) - 0.1, size(f64::max, 3.0) + 0.1);
     let low = points.iter().map(|p| p.3.log10().floor()).fold(f64::MAX, f64::min);
     let high = points.iter().map(|p| p.3.log10().ceil()).fold(f64::MIN, f64::max);
     let at = |size: f64, time: f64| {
         (left + (size.log10() - x0) / (x1 - x0) * width, top + height - (time.log10() - low) / (high - low) * height)
     };
-    let mut out = String::from("<svg xmlns=\"http://www.w3.org/2000/svg\" width=\"860\" height=\"400\" font-family=\"sans-serif\" font-size=\"12\">\n<rect width=\"860\" height=\"400\" fill=\"white\"/>\n");
-    for e in x0 as i32..=x1 as i32 {
+    let mut out = String::from("<svg xmlns=\"http://www.w3.org/2000/svg\" width=\"900\" height=\"430\" font-family=\"sans-serif\" font-size=\"12\">\n<rect width=\"900\" height=\"430\" fill=\"white\"/>\n");
+    let _ = writeln!(out, "<text x=\"{:.1}\" y=\"22\" text-anchor=\"middle\" font-size=\"15\">Time of one call against the size of the net</text>", left + width / 2.0);
+    let _ = writeln!(out, "<rect x=\"{left}\" y=\"{top}\" width=\"{width}\" height=\"{height}\" fill=\"none\" stroke=\"#999\"/>");
+    for e in x0.ceil() as i32..=x1.floor() as i32 {
         let (x, _) = at(10f64.powi(e), 10f64.powf(low));
         let _ = writeln!(out, "<line x1=\"{x:.1}\" y1=\"{top}\" x2=\"{x:.1}\" y2=\"{:.1}\" stroke=\"#ddd\"/><text x=\"{x:.1}\" y=\"{:.1}\" text-anchor=\"middle\">10^{e}</text>", top + height, top + height + 18.0);
     }
     for e in low as i32..=high as i32 {
-        let (_, y) = at(1000.0, 10f64.powi(e));
+        let (_, y) = at(1.0, 10f64.powi(e));
         let name = match e {
             3 => "1 µs".to_string(),
             4 | 5 => format!("{} µs", 10i32.pow(e as u32 - 3)),
@@ -29,7 +33,8 @@ pub fn drawn(points: &[(String, &str, f64, f64)]) -> String {
         };
         let _ = writeln!(out, "<line x1=\"{left}\" y1=\"{y:.1}\" x2=\"{:.1}\" y2=\"{y:.1}\" stroke=\"#ddd\"/><text x=\"{:.1}\" y=\"{:.1}\" text-anchor=\"end\">{name}</text>", left + width, left - 8.0, y + 4.0);
     }
-    let _ = writeln!(out, "<text x=\"{:.1}\" y=\"{:.1}\" text-anchor=\"middle\">triangles</text>", left + width / 2.0, top + height + 38.0);
+    let _ = writeln!(out, "<text x=\"{:.1}\" y=\"{:.1}\" text-anchor=\"middle\">size of the net (triangles)</text>", left + width / 2.0, top + height + 38.0);
+    let _ = writeln!(out, "<text transform=\"translate(20 {:.1}) rotate(-90)\" text-anchor=\"middle\">time of one call (µs, ms), best of the rounds</text>", top + height / 2.0);
     let mut names: Vec<&String> = vec![];
     for (name, ..) in points {
         if !names.contains(&name) {
