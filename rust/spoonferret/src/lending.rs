@@ -172,6 +172,6 @@ pub(crate) fn with_free<T: Copy>(rows: &mut Vec<T>, free: usize) -> (*mut T, usi
 /// `T` is a type of a `Layout`, and so many rows were lent by `with_free`.
 pub(crate) unsafe fn keep<T: Copy>(rows: &mut Vec<T>, length: usize) {
     // the rows in use and the free ones that were lent are initialised, and of a layout's type any bits are a value: it is integers or floats and nothing besides
-    debug_assert!(length <= rows.capacity());
+    assert!(length <= rows.capacity());
     rows.set_len(length);
 }
