@@ -179,15 +179,15 @@ module _ (H N : ℕ) (R : List ℤ) (P : List ℕ) (thirds : H % 3 ≡ 0) (lent 
   abbrev Way : ℕ → Type 0
   Way g = About R e g
 
-  reached : Reached R a to
-  reached = reach-sym (moving H N R thirds lent in-order) (on (on l)) (2, ap (λ (i : ℕ). move R (partner R i)) (next-round e))
+  pub comes-round : Reached R a to
+  comes-round = reach-sym (moving H N R thirds lent in-order) (on (on l)) (2, ap (λ (i : ℕ). move R (partner R i)) (next-round e))
 
   soonest : (k : ℕ) × ((k ≤ H) × (iter (move R) k a ≡ to))
   soonest =
       let t = moving H N R thirds lent in-order in
       let z = period t a la in
-      let s = soon t a z (reached .0) in
-      (s .0, (omega (arith, s .1, z .le), s .2 ∙ reached .1))
+      let s = soon t a z (comes-round .0) in
+      (s .0, (omega (arith, s .1, z .le), s .2 ∙ comes-round .1))
 
   way-start : {g : ℕ} → Way g → endOf R g ≡ startOf R e
   way-start w = way-end H N R thirds lent in-order la w ∙ row (on lp) .pair-end ∙ p1-start
@@ -198,7 +198,7 @@ module _ (H N : ℕ) (R : List ℤ) (P : List ℕ) (thirds : H % 3 ≡ 0) (lent 
   way-not-p : Way p → ⊥
   way-not-p w =
       let q : p ≡ next (next (partner R a)) = sym (ap (λ (i : ℕ). next (next i)) (across (on lp)) ∙ next-round p) in
-      way-not-before H N R thirds lent in-order la reached (subst (λ (i : ℕ). Way i) q w)
+      way-not-before H N R thirds lent in-order la comes-round (subst (λ (i : ℕ). Way i) q w)
 
   way-outer : {g : ℕ} → Way g → Outer e p g
   way-outer {g} w = record {
@@ -295,6 +295,9 @@ module _ (H N : ℕ) (R : List ℤ) (P : List ℕ) (thirds : H % 3 ≡ 0) (lent 
 
     told3 : (g : ℕ) → AsTold H N R thirds lent in-order v a to R2 R3 g
     told3 = updated H N R thirds lent in-order to v H (soonest .0) a R2 la same2 (whole2 .1 ∙ told1 .same-length) (soonest .1 .0) (soonest .1 .1)
+
+    pub way-or-not : (g : ℕ) → Way g ⊎ (Way g → ⊥)
+    way-or-not g = ⊎-elim (λ t. inl (t .0)) (λ t. inr (t .0)) (told3 g)
 
     length3 : length R3 ≡ length R
     length3 = length-walk H v to H R2 a (la .in-use) ∙ whole2 .1 ∙ told1 .same-length

@@ -1,4 +1,5 @@
--- What 0 of collapse_edge leaves where no loop is formed, in words, of its entry: on a sound net, at a live edge.
+-- What 0 of collapse_edge leaves where no loop is formed, in words, of its entry: on a sound net, at a live edge. And where the edge is not
+-- duplicated in the fan of its start, the net is sound still.
 use mathlib.Core.Path.{_≡_, refl, sym, ap, _∙_}
 use mathlib.Core.Bool.{Bool, true, false}
 use mathlib.Core.List.{List, [], _∷_}
@@ -16,10 +17,10 @@ use Rattle.numbers.proofs.Names.{names-at}
 use Rattle.rows.specs.Halfedges.{pairOf, over-rows}
 use Rattle.rows.specs.Triples.{over-triples}
 use Rattle.net.specs.declared.Counts.{Counts}
-use Rattle.net.specs.Net.{Net}
+use Rattle.net.specs.Net.{Net, net}
 use Rattle.net.specs.Counts.{halfedge-capacity, vertex-capacity-over}
 use Rattle.net.specs.Sound.{start-vertex, end-vertex, partner, Live, Sound}
-use Rattle.net.proofs.Shape.{Within, within}
+use Rattle.net.proofs.Shape.{Within, within, shaped-with}
 use Rattle.net.proofs.Sound.{live-row, next-live, partner-live}
 use Rattle.steps.specs.declared.How.{How}
 use Rattle.steps.specs.declared.How.the-variants as W
@@ -32,8 +33,9 @@ use Rattle.rings.proofs.Vertices.{fold-same}
 use Rattle.collapsing.specs.declared.Tolerance.{Tolerance}
 use Rattle.collapsing.specs.Collapse.{between, ran, short-at, about, collapse-at}
 use Rattle.collapse.specs.CollapseEdge.{Left, left, left-by, to-settle, collapseSettled, carries-props, collapseEdge}
-use Rattle.collapsetold.specs.Collapsed.{NoLoop, CollapsedAway, Done}
-use Rattle.collapsetold.proofs.Collapsed.{neighbours, none-met, folds, away}
+use Rattle.collapsetold.specs.Collapsed.{NoLoop, Once, CollapsedAway, Done}
+use Rattle.collapsetold.proofs.Collapsed.{neighbours, none-met, comes-round, way-or-not, folds, away}
+use Rattle.collapsetold.proofs.InOrder.{away-in-order, away-lengths}
 use Rattle.collapsetold.proofs.Told.{Lends, judge-live, reached}
 
 -- 0 is said of steps that were not refused, with the vertices in use
@@ -158,3 +160,15 @@ module _ (c : Counts) (n : Net) (saved : List ℤ) (held list : List ℕ) (t : T
             positions-held = refl;
             list-cleared = refl;
           })
+
+      -- and where besides the edge is not duplicated in the fan of its start, the net is sound still
+      pub collapse-sound : NoLoop rows e → Once rows e → Sound c (net (result .halfedges) (result .positions) (n .normals) (n .references) (n .properties))
+      collapse-sound free once =
+          let x = collapse-done free .away in
+          let near = way-or-not H N rows positions (w .halfedges-thirds) (w .halfedges-lent) (w .vertices-most) (sound .in-order) (w .vertices-lent) e l capacity (carries-props c) (n .references) neighbours-listed in
+          let round = comes-round H N rows positions (w .halfedges-thirds) (w .halfedges-lent) (w .vertices-most) (sound .in-order) (w .vertices-lent) e l in
+          let lengths = away-lengths H N rows positions (w .halfedges-thirds) (w .halfedges-lent) (w .vertices-most) (sound .in-order) (w .vertices-lent) e l (carries-props c) (n .references) (result .halfedges) (result .positions) x near round once in
+          record {
+            shaped = shaped-with c n (sound .shaped) N (result .halfedges) (result .positions) (lengths .0) (lengths .1) (sound .shaped .vertices-fit);
+            in-order = away-in-order H N rows positions (w .halfedges-thirds) (w .halfedges-lent) (w .vertices-most) (sound .in-order) (w .vertices-lent) e l (carries-props c) (n .references) (result .halfedges) (result .positions) x near round once;
+          }

@@ -31,6 +31,10 @@ AboutEnd rows e k = OnWay rows (move rows e) (next (next (partner rows e))) k
 abbrev pub NoLoop : List ℤ → ℕ → Type 0
 NoLoop rows e = (g k : ℕ) → About rows e g → AboutEnd rows e k → endOf rows (next g) ≡ endOf rows (next k) → ⊥
 
+-- the edge is not duplicated in the fan of its start: no other row of it ends where the edge does
+abbrev pub Once : List ℤ → ℕ → Type 0
+Once rows e = (g : ℕ) → About rows e g → endOf rows (next g) ≡ endOf rows e → ⊥
+
 -- the prop of row h by the rule: where props are carried and h is of the edge's face, that of the edge's next; else of the partner's face,
 -- that of the partner; else its own
 abbrev pub prop-by : Bool → List ℤ → ℕ → ℕ → List ℤ → ℕ → ℤ
