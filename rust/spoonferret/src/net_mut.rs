@@ -222,7 +222,7 @@ impl<L: Layout> NetMut<'_, L> {
     }
 
     /// Makes a call that may append: with `room`, and on `NoRoom` with twice as much, and at least a sixteenth of the net, until there is `most` or what the bounds
-    /// leave. Where that is refused too, the vectors give back what they grew.
+    /// leave. Where an operation on the whole net is refused, the vectors give back what they grew; of one on an edge the room is there for the next.
     fn growing(
         &mut self,
         work: &mut Workspace,
@@ -260,9 +260,11 @@ impl<L: Layout> NetMut<'_, L> {
                         work.copied(triangles..triangles + room.triangles).for_each(drop);
                     }
                     if refusal != Refusal::NoRoom || room == most {
-                        self.halfedges.shrink_to(capacities.0);
-                        self.positions.shrink_to(capacities.1);
-                        self.normals.shrink_to(capacities.2);
+                        if exactly {
+                            self.halfedges.shrink_to(capacities.0);
+                            self.positions.shrink_to(capacities.1);
+                            self.normals.shrink_to(capacities.2);
+                        }
                         return Err(refusal);
                     }
                 }

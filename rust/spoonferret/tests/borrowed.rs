@@ -272,6 +272,8 @@ fn a_second_call_allocates_nothing() {
         net.form_loop(&mut work, 0, 0).expect("room");
         edge_op::dedupe_edge(&mut pillows, 9).expect("room");
         edge_op::split_pinched_verts(&mut pillows).expect("sound");
+        edge_op::cleanup_topology(&mut pillows).expect("sound");
+        assert!(edge_op::collapse_edge(&mut pillows, 1, &mut vec![], 0.0, 0).is_err());
         counts.push(allocations() - before);
     }
     assert!(counts[0] > 0);
