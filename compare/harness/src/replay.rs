@@ -5,7 +5,7 @@ use crate::entries::{Field, ALL};
 use crate::lent::{counts, Asked, Lent};
 use crate::nets;
 use crate::reading;
-use std::collections::BTreeMap;
+use std::collections::{BTreeMap, BTreeSet};
 use std::fmt::Write;
 use std::path::Path;
 
@@ -60,13 +60,15 @@ fn buffers(which: usize, net: &Lent) -> Vec<(&'static str, Vec<i128>)> {
 }
 
 /// What is told apart among the calls of an entry: the number of the answer, whether anything was written, and of what appends whether the net is empty, how
-/// many vertices and half-edges were appended, or had been when it was refused and read zero now, and whether there was room for another vertex then.
+/// many vertices and half-edges were appended, or had been when it was refused and read zero now, and whether there was room for another vertex then. Of the
+/// rest, what `apart` says stands in the place of how many.
 type Kind = (u32, bool, bool, usize, usize, bool);
 
-fn kind(which: usize, net: &Lent, left: &Lent, number: u32) -> Kind {
+fn kind(which: usize, net: &Lent, left: &Lent, asked: &Asked, number: u32) -> Kind {
     let written = left.differs(net).is_some();
     if !appends(which) {
-        return (number, written, false, 0, 0, false);
+        let (some, more) = apart(which, net, left, asked, number);
+        return (number, written, false, some, more, false);
     }
     let empty = net.used.halfedges == 0;
     // of a refusal the rows that were not zero and are now
@@ -81,6 +83,34 @@ fn kind(which: usize, net: &Lent, left: &Lent, number: u32) -> Kind {
     };
     let room = number == 6 && net.used.vertices + vertices < reading::vertex_capacity(net);
     (number, written, empty, vertices.min(4), rows.min(12), room)
+}
+
+/// What else is told apart: the least number of all; at how many vertices a split appends, and how many; rows with a start and an end below 0, by the choice;
+/// loops formed of two half-edges where nothing folds, by where they stand.
+fn apart(which: usize, net: &Lent, left: &Lent, asked: &Asked, number: u32) -> (usize, usize) {
+    let rows = |l: &Lent| -> Vec<[i32; 4]> { l.halfedges.chunks_exact(4).take(net.used.halfedges).map(|r| [r[0], r[1], r[2], r[3]]).collect() };
+    match (ALL[which].name, number) {
+        ("next_halfedge" | "tri_of", _) => ((asked.numbers[0] == i32::MIN) as usize, 0),
+        ("split_pinched_verts", 0) => {
+            let moved: BTreeSet<(i32, i32)> = rows(net).iter().zip(rows(left)).map(|(b, a)| (b[0], a[0])).filter(|(b, a)| a != b).collect();
+            let from: BTreeSet<i32> = moved.iter().map(|m| m.0).collect();
+            (from.len().min(2), moved.len().min(5))
+        }
+        ("orbit_owners", 0 | 10) => match rows(net).iter().any(|r| r[0] >= 0 && r[1] < 0) {
+            true => (1, asked.choice as usize),
+            false => (0, 0),
+        },
+        ("form_loop", 0) => {
+            let [first, second] = [asked.numbers[0], asked.numbers[1]];
+            let dead = |l: &Lent| rows(l).iter().filter(|r| r[2] < 0).count();
+            match first != second && dead(net) == dead(left) {
+                true if first / 3 == second / 3 => (1, 0),
+                true => (1, 1 + (first > second) as usize),
+                false => (0, 0),
+            }
+        }
+        _ => (0, 0),
+    }
 }
 
 /// The entries that append triangles or vertices as their steps go; form_loop, which always appends two, is not told apart by them.
@@ -112,7 +142,7 @@ fn printed(which: usize, net: &Lent, asked: &Asked) -> (Kind, String) {
         row("references", &left.references, &mut out);
         row("properties", &left.properties, &mut out);
     }
-    (kind(which, net, &left, said.number), out)
+    (kind(which, net, &left, asked, said.number), out)
 }
 
 fn row<T: std::fmt::Display>(name: &str, values: &[T], out: &mut String) {
@@ -227,9 +257,21 @@ pub fn write(folder: &Path, chance: &mut Chance) {
     for (which, entry) in ALL.iter().enumerate() {
         // calls by what is owed
         let mut by_answer: BTreeMap<Kind, Vec<(String, String)>> = BTreeMap::new();
-        for _ in 0..if entry.on_nets { 600 } else { 4 } {
+        for _ in 0..match entry.name {
+            "split_pinched_verts" | "form_loop" => 3000,
+            _ if entry.on_nets => 600,
+            _ => 4,
+        } {
             let net = match entry.on_nets {
-                true if appends(which) => any_growing(&small, chance),
+                true if appends(which) || entry.name == "form_loop" && chance.once_in(2) => any_growing(&small, chance),
+                true if entry.name == "orbit_owners" && chance.once_in(2) => {
+                    let net = any_net(chance);
+                    if reading::misshapen(&net) || net.used.halfedges == 0 {
+                        net
+                    } else {
+                        nets::opened(&net, chance)
+                    }
+                }
                 true => any_net(chance),
                 false => Lent::default(),
             };
@@ -243,10 +285,14 @@ pub fn write(folder: &Path, chance: &mut Chance) {
                 shorten(&mut lent, chance);
                 let (answer, text) = printed(which, &lent, &asked);
                 let stored = (call(which, &lent, &asked), text);
-                if appends(which) && stored.0.len() > MOST_OF_ONE {
+                let rare = entry.name == "form_loop" && answer.3 == 1;
+                if (appends(which) || entry.name == "form_loop" && !rare) && stored.0.len() > MOST_OF_ONE {
                     continue;
                 }
                 let share = by_answer.entry(answer).or_default();
+                if !entry.on_nets && share.contains(&stored) {
+                    continue;
+                }
                 // a sample of each, of no more than so many
                 if share.len() < 2 * CALLS {
                     share.push(stored);

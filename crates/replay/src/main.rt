@@ -191,6 +191,71 @@ fn run(
     show::end();
 }
 
+// The entries that repair a net, by number; the place behind their buffers.
+fn repair(
+    entry: u64,
+    file: &[u8],
+    at: usize,
+    used: Used,
+    halfedges: &mut [i32],
+    positions: &mut [u64],
+    normals: &mut [u64],
+    references: &mut [i32],
+    properties: &[u64],
+    numbers: &[i32; 8],
+    asked: &[u64; 8],
+) -> usize {
+    if entry == 11 {
+        return repaircalls::dedupe_edge(
+            file,
+            at,
+            used,
+            halfedges,
+            positions,
+            normals,
+            references,
+            properties,
+            numbers,
+        );
+    }
+    if entry == 12 {
+        return repaircalls::dedupe_edges(
+            file,
+            at,
+            used,
+            halfedges,
+            positions,
+            normals,
+            references,
+            properties,
+        );
+    }
+    if entry == 13 {
+        return repaircalls::cleanup_topology(
+            file,
+            at,
+            used,
+            halfedges,
+            positions,
+            normals,
+            references,
+            properties,
+        );
+    }
+    repaircalls::collapse_edge(
+        file,
+        at,
+        used,
+        halfedges,
+        positions,
+        normals,
+        references,
+        properties,
+        numbers,
+        asked,
+    )
+}
+
 // The entry of that number; the place behind its buffers.
 fn run_all(
     entry: u64,
@@ -199,8 +264,8 @@ fn run_all(
     used: Used,
     halfedges: &mut [i32],
     positions: &mut [u64],
-    normals: &[u64],
-    references: &[i32],
+    normals: &mut [u64],
+    references: &mut [i32],
     properties: &[u64],
     numbers: &[i32; 8],
     asked: &[u64; 8],
@@ -244,6 +309,21 @@ fn run_all(
             numbers,
         );
     }
+    if 10 < entry {
+        return repair(
+            entry,
+            file,
+            at,
+            used,
+            halfedges,
+            positions,
+            normals,
+            references,
+            properties,
+            numbers,
+            asked,
+        );
+    }
     run(
         entry,
         used,
@@ -281,8 +361,8 @@ fn run_and_leave(
     used: Used,
     halfedges: &mut [i32],
     positions: &mut [u64],
-    normals: &[u64],
-    references: &[i32],
+    normals: &mut [u64],
+    references: &mut [i32],
     properties: &[u64],
     numbers: &[i32; 8],
     asked: &[u64; 8],
@@ -316,8 +396,8 @@ fn ask(
     used: Used,
     halfedges: &mut [i32],
     positions: &mut [u64],
-    normals: &[u64],
-    references: &[i32],
+    normals: &mut [u64],
+    references: &mut [i32],
     properties: &[u64],
 ) -> usize {
     let mut numbers = [0i32; 8];
@@ -366,8 +446,8 @@ fn read_faces(
         used,
         halfedges,
         positions,
-        &normals[..n_end],
-        &references[..r_end],
+        &mut normals[..n_end],
+        &mut references[..r_end],
         &properties[..q_end],
     )
 }

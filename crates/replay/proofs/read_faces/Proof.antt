@@ -23,14 +23,14 @@ slice-aggregate-list-2 c = search needs
 list-requires-2 : tie.Need-list-requires-2
 list-requires-2 c κs = search needs
 
-array-share-prefix-normals : tie.Need-array-share-prefix-normals
-array-share-prefix-normals c = search needs
+array-borrow-prefix-normals : tie.Need-array-borrow-prefix-normals
+array-borrow-prefix-normals c = search needs
 
 slice-aggregate-ask : tie.Need-slice-aggregate-ask
 slice-aggregate-ask c = sym (length-take-le _ _ (c .before .before .before .before .before .before .before .before .before .before .list .ensures))
 
-array-share-prefix-references : tie.Need-array-share-prefix-references
-array-share-prefix-references c = search needs
+array-borrow-prefix-references : tie.Need-array-borrow-prefix-references
+array-borrow-prefix-references c = search needs
 
 slice-aggregate-ask-2 : tie.Need-slice-aggregate-ask-2
 slice-aggregate-ask-2 c = sym (length-take-le _ _ (c .before .before .before .before .before .before .before .before .signed-list .ensures))
@@ -63,9 +63,9 @@ read-faces-spec =
     signed-list-requires
     slice-aggregate-list-2
     list-requires-2
-    array-share-prefix-normals
+    array-borrow-prefix-normals
     slice-aggregate-ask
-    array-share-prefix-references
+    array-borrow-prefix-references
     slice-aggregate-ask-2
     array-share-prefix-properties
     slice-aggregate-ask-3

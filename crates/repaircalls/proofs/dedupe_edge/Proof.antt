@@ -1,0 +1,67 @@
+-- `repaircalls::dedupe_edge` is safe: a list that was read is no longer than what it was read into.
+use mathlib.Core.Path.{sym}
+use lib.Seq.{length-take-le}
+use borrow.Author.Needs.{needs}
+use Rattle.repaircalls.proofs.dedupe_edge.Statement.{statement}
+use Rattle.repaircalls.proofs.dedupe_edge.Tie as tie
+
+slice-aggregate-signed-list : tie.Need-slice-aggregate-signed-list
+slice-aggregate-signed-list c = search needs
+
+signed-list-requires : tie.Need-signed-list-requires
+signed-list-requires c κs = search needs
+
+slice-aggregate-list : tie.Need-slice-aggregate-list
+slice-aggregate-list c = search needs
+
+list-requires : tie.Need-list-requires
+list-requires c κs = search needs
+
+array-borrow-prefix-saved : tie.Need-array-borrow-prefix-saved
+array-borrow-prefix-saved c = search needs
+
+slice-aggregate-call-dedupe-edge : tie.Need-slice-aggregate-call-dedupe-edge
+slice-aggregate-call-dedupe-edge c = sym (length-take-le _ _ (c .before .before .before .before .before .before .before .before .before .signed-list .ensures))
+
+array-borrow-prefix-held : tie.Need-array-borrow-prefix-held
+array-borrow-prefix-held c = search needs
+
+slice-aggregate-call-dedupe-edge-2 : tie.Need-slice-aggregate-call-dedupe-edge-2
+slice-aggregate-call-dedupe-edge-2 c = sym (length-take-le _ _ (c .before .before .before .before .before .before .before .list .ensures))
+
+call-dedupe-edge-requires : tie.Need-call-dedupe-edge-requires
+call-dedupe-edge-requires c κs = search needs
+
+same-length : tie.Need-same-length
+same-length c = search needs
+
+same-length-2 : tie.Need-same-length-2
+same-length-2 c = search needs
+
+same-length-3 : tie.Need-same-length-3
+same-length-3 c = search needs
+
+same-length-4 : tie.Need-same-length-4
+same-length-4 c = search needs
+
+returns : tie.Need-returns
+returns c = search needs
+
+pub dedupe-edge-spec : {M : Type 1} → statement M
+dedupe-edge-spec =
+    tie.close
+    (tie.spec
+    slice-aggregate-signed-list
+    signed-list-requires
+    slice-aggregate-list
+    list-requires
+    array-borrow-prefix-saved
+    slice-aggregate-call-dedupe-edge
+    array-borrow-prefix-held
+    slice-aggregate-call-dedupe-edge-2
+    call-dedupe-edge-requires
+    same-length
+    same-length-2
+    same-length-3
+    same-length-4
+    returns)

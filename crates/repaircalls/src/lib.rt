@@ -1,0 +1,309 @@
+// The exported functions that repair a net, called on stored calls: each reads the buffers that it is lent, prints what it says and the
+// buffers as they are left, and says the place behind them.
+use calltext::scan;
+use calltext::show;
+use repairtold::CleanupTopologyAnswer;
+use repairtold::CollapseEdgeAnswer;
+use repairtold::DedupeEdgeAnswer;
+use repairtold::DedupeEdgesAnswer;
+use told::Used;
+
+fn say_grown(row: usize, halfedges: usize, vertices: usize) {
+    show::count(b" row=", row as u64);
+    show::count(b" halfedges=", halfedges as u64);
+    show::count(b" vertices=", vertices as u64);
+    show::end();
+}
+
+fn say_edge(told: DedupeEdgeAnswer) {
+    show::number(b"dedupe_edge", told.number);
+    say_grown(told.row, told.halfedges, told.vertices);
+}
+
+fn say_edges(told: DedupeEdgesAnswer) {
+    show::number(b"dedupe_edges", told.number);
+    say_grown(told.row, told.halfedges, told.vertices);
+}
+
+fn say_cleanup(told: CleanupTopologyAnswer) {
+    show::number(b"cleanup_topology", told.number);
+    say_grown(told.row, told.halfedges, told.vertices);
+}
+
+fn say_collapse(told: CollapseEdgeAnswer) {
+    show::number(b"collapse_edge", told.number);
+    show::count(b" row=", told.row as u64);
+    show::count(b" vertices=", told.vertices as u64);
+    show::count(b" squared_length=", told.squared_length);
+    show::count(b" limit=", told.limit);
+    show::end();
+}
+
+fn show_spares(spare_halfedges: &[i32], spare_positions: &[u64]) {
+    show::signed_list(b"spare_halfedges", spare_halfedges);
+    show::list(b"spare_positions", spare_positions);
+}
+
+fn show_buffers(work: &[u32], list: &[u32]) {
+    show::words(b"work", work);
+    show::words(b"list", list);
+}
+
+fn call_dedupe_edge(
+    used: Used,
+    halfedges: &mut [i32],
+    positions: &mut [u64],
+    normals: &mut [u64],
+    references: &mut [i32],
+    properties: &[u64],
+    spare_halfedges: &mut [i32],
+    spare_positions: &mut [u64],
+    numbers: &[i32; 8],
+) {
+    let told = station::spoonferret_dedupe_edge(
+        used,
+        halfedges,
+        positions,
+        normals,
+        references,
+        properties,
+        spare_halfedges,
+        spare_positions,
+        numbers[0],
+    );
+    say_edge(told);
+    show_spares(spare_halfedges, spare_positions);
+}
+
+pub fn dedupe_edge(
+    file: &[u8],
+    at: usize,
+    used: Used,
+    halfedges: &mut [i32],
+    positions: &mut [u64],
+    normals: &mut [u64],
+    references: &mut [i32],
+    properties: &[u64],
+    numbers: &[i32; 8],
+) -> usize {
+    let mut saved = [0i32; 512];
+    let mut held = [0u64; 256];
+    let s = scan::signed_list(file, at, &mut saved);
+    let p = scan::list(file, s.next, &mut held);
+    let s_end = s.length;
+    let p_end = p.length;
+    call_dedupe_edge(
+        used,
+        halfedges,
+        positions,
+        normals,
+        references,
+        properties,
+        &mut saved[..s_end],
+        &mut held[..p_end],
+        numbers,
+    );
+    p.next
+}
+
+fn call_dedupe_edges(
+    used: Used,
+    halfedges: &mut [i32],
+    positions: &mut [u64],
+    normals: &mut [u64],
+    references: &mut [i32],
+    properties: &[u64],
+    spare_halfedges: &mut [i32],
+    spare_positions: &mut [u64],
+    work: &mut [u32],
+    list: &mut [u32],
+) {
+    let told = station::spoonferret_dedupe_edges(
+        used,
+        halfedges,
+        positions,
+        normals,
+        references,
+        properties,
+        spare_halfedges,
+        spare_positions,
+        work,
+        list,
+    );
+    say_edges(told);
+    show_spares(spare_halfedges, spare_positions);
+    show_buffers(work, list);
+}
+
+pub fn dedupe_edges(
+    file: &[u8],
+    at: usize,
+    used: Used,
+    halfedges: &mut [i32],
+    positions: &mut [u64],
+    normals: &mut [u64],
+    references: &mut [i32],
+    properties: &[u64],
+) -> usize {
+    let mut saved = [0i32; 512];
+    let mut held = [0u64; 256];
+    let mut work = [0u32; 512];
+    let mut list = [0u32; 512];
+    let s = scan::signed_list(file, at, &mut saved);
+    let p = scan::list(file, s.next, &mut held);
+    let w = scan::words(file, p.next, &mut work);
+    let l = scan::words(file, w.next, &mut list);
+    let s_end = s.length;
+    let p_end = p.length;
+    let w_end = w.length;
+    let l_end = l.length;
+    call_dedupe_edges(
+        used,
+        halfedges,
+        positions,
+        normals,
+        references,
+        properties,
+        &mut saved[..s_end],
+        &mut held[..p_end],
+        &mut work[..w_end],
+        &mut list[..l_end],
+    );
+    l.next
+}
+
+fn call_cleanup_topology(
+    used: Used,
+    halfedges: &mut [i32],
+    positions: &mut [u64],
+    normals: &mut [u64],
+    references: &mut [i32],
+    properties: &[u64],
+    spare_halfedges: &mut [i32],
+    spare_positions: &mut [u64],
+    work: &mut [u32],
+    list: &mut [u32],
+) {
+    let told = station::spoonferret_cleanup_topology(
+        used,
+        halfedges,
+        positions,
+        normals,
+        references,
+        properties,
+        spare_halfedges,
+        spare_positions,
+        work,
+        list,
+    );
+    say_cleanup(told);
+    show_spares(spare_halfedges, spare_positions);
+    show_buffers(work, list);
+}
+
+pub fn cleanup_topology(
+    file: &[u8],
+    at: usize,
+    used: Used,
+    halfedges: &mut [i32],
+    positions: &mut [u64],
+    normals: &mut [u64],
+    references: &mut [i32],
+    properties: &[u64],
+) -> usize {
+    let mut saved = [0i32; 512];
+    let mut held = [0u64; 256];
+    let mut work = [0u32; 512];
+    let mut list = [0u32; 512];
+    let s = scan::signed_list(file, at, &mut saved);
+    let p = scan::list(file, s.next, &mut held);
+    let w = scan::words(file, p.next, &mut work);
+    let l = scan::words(file, w.next, &mut list);
+    let s_end = s.length;
+    let p_end = p.length;
+    let w_end = w.length;
+    let l_end = l.length;
+    call_cleanup_topology(
+        used,
+        halfedges,
+        positions,
+        normals,
+        references,
+        properties,
+        &mut saved[..s_end],
+        &mut held[..p_end],
+        &mut work[..w_end],
+        &mut list[..l_end],
+    );
+    l.next
+}
+
+fn call_collapse_edge(
+    used: Used,
+    halfedges: &mut [i32],
+    positions: &mut [u64],
+    normals: &[u64],
+    references: &[i32],
+    properties: &[u64],
+    spare_halfedges: &mut [i32],
+    spare_positions: &mut [u64],
+    list: &mut [u32],
+    numbers: &[i32; 8],
+    asked: &[u64; 8],
+) {
+    let told = station::spoonferret_collapse_edge(
+        used,
+        halfedges,
+        positions,
+        normals,
+        references,
+        properties,
+        spare_halfedges,
+        spare_positions,
+        list,
+        numbers[0],
+        numbers[1],
+        floats::float_of(asked[0]),
+        floats::float_of(asked[1]),
+    );
+    say_collapse(told);
+    show_spares(spare_halfedges, spare_positions);
+    show::words(b"list", list);
+}
+
+pub fn collapse_edge(
+    file: &[u8],
+    at: usize,
+    used: Used,
+    halfedges: &mut [i32],
+    positions: &mut [u64],
+    normals: &[u64],
+    references: &[i32],
+    properties: &[u64],
+    numbers: &[i32; 8],
+    asked: &[u64; 8],
+) -> usize {
+    let mut saved = [0i32; 512];
+    let mut held = [0u64; 256];
+    let mut list = [0u32; 512];
+    let s = scan::signed_list(file, at, &mut saved);
+    let p = scan::list(file, s.next, &mut held);
+    let l = scan::words(file, p.next, &mut list);
+    let s_end = s.length;
+    let p_end = p.length;
+    let l_end = l.length;
+    call_collapse_edge(
+        used,
+        halfedges,
+        positions,
+        normals,
+        references,
+        properties,
+        &mut saved[..s_end],
+        &mut held[..p_end],
+        &mut list[..l_end],
+        numbers,
+        asked,
+    );
+    l.next
+}
