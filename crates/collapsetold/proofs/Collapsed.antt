@@ -36,12 +36,12 @@ use Rattle.foldsound.specs.Removed.{Former, Latter, Outer, Rejoined, Lost, Remo
 use Rattle.foldsound.proofs.Edge.{f-outside, x-outer, y-outer, outer-next, outer-flip, outside-next}
 use Rattle.foldsound.proofs.Steps.{fold-left}
 use Rattle.loopsound.proofs.Ways.{way-live, way-end, way-not-end, way-not-before}
-use Rattle.rings.specs.Ring.{Fixed, ring}
-use Rattle.collapsing.specs.Collapse.{about}
-use Rattle.collapsetold.specs.Plain.{along, meets, PlainRow}
+use Rattle.rings.specs.Ring.{Fixed, ring, Spun, spin}
+use Rattle.collapsing.specs.Collapse.{close, about}
+use Rattle.collapsetold.specs.Plain.{along, meets, Plain}
 use Rattle.collapsetold.specs.Collapsed.{About, AboutEnd, NoLoop, prop-by, JoinedTwice, Joined, twice, only-former, only-latter, both, Collapsed, CollapsedAway}
-use Rattle.collapsetold.proofs.Plain.{around, about-plain, begun-told, along-other}
-use Rattle.collapsetold.proofs.Ways.{SamePairs, AsCarried, Spares, Lists, comes, updated, listed, meets-none, carried-along, along-kept}
+use Rattle.collapsetold.proofs.Plain.{around, spin-plain, begun-told, along-other}
+use Rattle.collapsetold.proofs.Ways.{SamePairs, AsCarried, Spares, Lists, comes, updated, listed, meets-none, carried-along, spin-goes, along-kept}
 
 -- a row outside a triangle, named from another of its rows
 outside-back : {e g : ℕ} → Outside (next e) g → Outside e g
@@ -60,35 +60,13 @@ going h q n W.Stopped r = absurd (true≢false r)
 is-begun : (k : Middle) (h : List ℤ) (q : List ℕ) (n : ℕ) → k .halfedges ≡ h → k .positions ≡ q → k .run .vertices ≡ n → refused k ≡ false → k ≡ begin h q n
 is-begun k h q n a b c r = going (k .halfedges) (k .positions) (k .run .vertices) (k .run .how) r ∙ rw (a, b, c)
 
--- a step that an earlier one has refused does nothing
-update-stays : (H v from to : ℕ) (m : Middle) → refused m ≡ true → update H v from to m ≡ m
-unfolding update
-update-stays H v from to m t = rw t
-
-collapse-stays : (H e : ℕ) (m : Middle) → refused m ≡ true → collapse H e m ≡ m
-unfolding collapse
-collapse-stays H e m t = rw t
-
-fold-stays : (H e : ℕ) (m : Middle) → refused m ≡ true → fold H e m ≡ m
-unfolding fold
-fold-stays H e m t = rw t
-
--- so where the last has not, the first had not been
-unrefused : (H v e f to : ℕ) (k : Middle) → refused (fold H f (collapse H e (update H v f to k))) ≡ false → refused k ≡ false
-unrefused H v e f to k r =
-    by-test (refused k)
-    (λ t. sym (ap (λ (m : Middle). refused m) (still t)) ∙ r)
-    (λ t. t)
-  where
-    still : refused k ≡ true → fold H f (collapse H e (update H v f to k)) ≡ k
-    still t = rw (update-stays H v f to k t, collapse-stays H e k t) (fold-stays H f k t)
-
+-- a walk goes on where it comes to its end
 update-goes : (H v from to n : ℕ) (l : List ℤ) (p : List ℕ) → walk H v to H l from .there ≡ true → update H v from to (begin l p n) ≡ begin (walk H v to H l from .rows) p n
 unfolding update
 update-goes H v from to n l p t = rw t
 
 -- nothing is folded at an empty row
-fold-empty : (H f n : ℕ) (l : List ℤ) (q : List ℕ) → Empty l f → fold H f (begin l q n) ≡ begin l q n
+pub fold-empty : (H f n : ℕ) (l : List ℤ) (q : List ℕ) → Empty l f → fold H f (begin l q n) ≡ begin l q n
 unfolding fold
 fold-empty H f n l q d = rw (d .pair-none)
 
@@ -227,6 +205,16 @@ module _ (H N : ℕ) (R : List ℤ) (P : List ℕ) (thirds : H % 3 ≡ 0) (lent 
       (λ q. row lp .apart-23 (p1-start ∙ sym (way-next w) ∙ ap (startOf R) q ∙ a-start))
       (λ q. row lp .apart-12 (sym b-start ∙ sym (ap (startOf R) q) ∙ way-next w ∙ sym p1-start))
 
+  -- the positions with the start lost
+  start-fits : start-vertex R e < lent-triples P
+  start-fits = omega (arith, row l .start-in)
+
+  lost-length : length (put-triple (start-vertex R e) nan P) ≡ length P
+  lost-length = length-put (start-vertex R e) nan P start-fits
+
+  pub lost-lent : N ≤ lent-triples (put-triple (start-vertex R e) nan P)
+  lost-lent = rw lost-length positions-lent
+
   -- the way about the end, along which the neighbours are listed
   abbrev lc : Live H R c
   lc = partner-live H N R thirds in-order (on l)
@@ -255,15 +243,17 @@ module _ (H N : ℕ) (R : List ℤ) (P : List ℕ) (thirds : H % 3 ≡ 0) (lent 
     abbrev s : Fixed
     s = around H capacity props references e p list
 
-    pub none-met : list ≡ neighbours .list → NoLoop R e → meets s (length list) H a R1 ≡ false
-    none-met is free = meets-none H N R thirds lent in-order capacity props references e p list (length list) H a R1 la same1 off
-      where
-        off : (g : ℕ) → Way g → (i : ℕ) → i < length list → endOf R1 (next g) ≡ endOf R1 (getD list i 0) → ⊥
-        off g w i b q =
-            let k = neighbours .members i (rw is at b) in
-            free g (k .0) w (k .1 .0)
-            (sym (told1 .ends (next g) (outer-next (way-outer w) .off-other)) ∙ q ∙ ap (λ (m : List ℕ). endOf R1 (getD m i 0)) is ∙ ap (endOf R1) (k .1 .1)
-            ∙ told1 .ends (next (k .0)) (outside-next (end-outside (k .1 .0))))
+    -- where no loop is formed, no row of the way ends in its next where one that is listed does
+    module _ (is : list ≡ neighbours .list) (free : NoLoop R e) where
+      off : (g : ℕ) → Way g → (i : ℕ) → i < length list → endOf R1 (next g) ≡ endOf R1 (getD list i 0) → ⊥
+      off g w i b q =
+          let k = neighbours .members i (rw is at b) in
+          free g (k .0) w (k .1 .0)
+          (sym (told1 .ends (next g) (outer-next (way-outer w) .off-other)) ∙ q ∙ ap (λ (m : List ℕ). endOf R1 (getD m i 0)) is ∙ ap (endOf R1) (k .1 .1)
+          ∙ told1 .ends (next (k .0)) (outside-next (end-outside (k .1 .0))))
+
+      none-met : meets s (length list) H a R1 ≡ false
+      none-met = meets-none H N R thirds lent in-order capacity props references e p list (length list) H a R1 la same1 off
 
     abbrev R2 : List ℤ
     R2 = along s H a R1
@@ -529,36 +519,30 @@ module _ (H N : ℕ) (R : List ℤ) (P : List ℕ) (thirds : H % 3 ≡ 0) (lent 
     abbrev lost-start : List ℕ
     lost-start = put-triple (start-vertex R e) nan P
 
-    module _ (no-loop : meets s (length list) H a R1 ≡ false) (went : refused done ≡ false) where
+    module _ (is : list ≡ neighbours .list) (free : NoLoop R e) where
       begun : collapse H p (lose e (begin R P N)) ≡ begin R1 lost-start N
       begun = begun-told H N R P thirds few in-order e l
 
-      plain : PlainRow s v a (collapse H p (lose e (begin R P N))) done
-      plain =
-          about-plain H capacity props references v e p a list (begin R P N)
-          (ap (λ (m : Middle). refused m) begun)
-          (ap (λ (m : Middle). meets s (length list) H a (m .halfedges)) begun ∙ no-loop)
+      abbrev spins : Spun
+      spins = spin (length list) s H a (length list) a (begin R1 lost-start N)
 
-      carrying : plain .carrying ≡ begin R2 lost-start N
+      plain : Plain s H a a (begin R1 lost-start N) spins
+      plain = spin-plain s (length list) H a (length list) a (begin R1 lost-start N) refl (none-met is free)
+
+      carrying : spins .middle ≡ begin R2 lost-start N
       carrying =
-          is-begun (plain .carrying) R2 lost-start N
-          (plain .rows ∙ ap (λ (m : Middle). along s H a (m .halfedges)) begun)
-          (plain .positions ∙ ap (λ (m : Middle). m .positions) begun)
-          (plain .vertices ∙ ap (λ (m : Middle). m .run .vertices) begun)
-          (unrefused H v e a to (plain .carrying) (sym (ap (λ (m : Middle). refused m) (plain .is)) ∙ went))
+          is-begun (spins .middle) R2 lost-start N (plain .rows) (plain .positions) (plain .vertices)
+          (spin-goes H N R thirds lent in-order capacity props references e p list (length list) (length list) a H (soonest .0) a (begin R1 lost-start N) refl la same1 (off is free) (soonest .1 .0) (soonest .1 .1))
+
+      closes : done ≡ fold H a (collapse H e (update H v a to (begin R2 lost-start N)))
+      unfolding about close
+      closes = rw (begun, plain .starts, carrying)
 
       pub folds : done ≡ fold H a (begin (all-come .left) lost-start N)
       folds =
-          plain .is
-          ∙ ap (λ (m : Middle). fold H a (collapse H e (update H v a to m))) carrying
+          closes
           ∙ ap (λ (m : Middle). fold H a (collapse H e m)) (update-goes H v a to N R2 lost-start there3)
           ∙ ap (fold H a) (all-come .goes lost-start)
-
-      start-fits : start-vertex R e < lent-triples P
-      start-fits = omega (arith, row l .start-in)
-
-      lost-length : length lost-start ≡ length P
-      lost-length = length-put (start-vertex R e) nan P start-fits
 
       left-length : H ≤ lent-halfedges (all-come .left)
       left-length = rw (all-come .told .same-length) lent
@@ -576,7 +560,7 @@ module _ (H N : ℕ) (R : List ℤ) (P : List ℕ) (thirds : H % 3 ≡ 0) (lent 
         };
         folded-rows = ap (λ (m : Middle). m .halfedges) folds;
         folded-positions = ap (λ (m : Middle). m .positions) folds;
-        removed = λ o k. rw folds (fold-left H N (all-come .left) thirds left-length few o a k lost-start (rw lost-length positions-lent));
+        removed = λ o k. rw folds (fold-left H N (all-come .left) thirds left-length few o a k lost-start lost-lent);
         not-folded = λ f.
             let z = subst (Empty (all-come .left)) (sym (back-to (on (on l)) f)) (all-come .told .e-dead .third) in
             let q = folds ∙ fold-empty H a N (all-come .left) lost-start z in

@@ -15,7 +15,7 @@ use Rattle.numbers.specs.Numbers.{at}
 use Rattle.numbers.specs.Next.{next}
 use Rattle.numbers.proofs.Names.{names-at}
 use Rattle.rows.specs.Halfedges.{pairOf, over-rows}
-use Rattle.rows.specs.Triples.{over-triples}
+use Rattle.rows.specs.Triples.{over-triples, put-triple}
 use Rattle.net.specs.declared.Counts.{Counts}
 use Rattle.net.specs.Net.{Net, net}
 use Rattle.net.specs.Counts.{halfedge-capacity, vertex-capacity-over}
@@ -25,17 +25,18 @@ use Rattle.net.proofs.Sound.{live-row, next-live, partner-live}
 use Rattle.steps.specs.declared.How.{How}
 use Rattle.steps.specs.declared.How.the-variants as W
 use Rattle.steps.specs.declared.Run.{Run}
-use Rattle.steps.specs.Steps.{Middle, begin, is-refused, refused, how-said}
+use Rattle.steps.specs.Steps.{Middle, begin, running, Going, is-refused, refused, how-said}
 use Rattle.steps.specs.Settle.{settled}
 use Rattle.walks.specs.Walk.{onward}
 use Rattle.walks.specs.Way.{move}
+use Rattle.folds.specs.Folds.{nan}
 use Rattle.rings.proofs.Vertices.{fold-same}
 use Rattle.collapsing.specs.declared.Tolerance.{Tolerance}
 use Rattle.collapsing.specs.Collapse.{between, ran, short-at, about, collapse-at}
 use Rattle.collapse.specs.CollapseEdge.{Left, left, left-by, to-settle, collapseSettled, carries-props, collapseEdge}
 use Rattle.collapsetold.specs.Collapsed.{NoLoop, Once, CollapsedAway, Done}
-use Rattle.collapsetold.proofs.Collapsed.{neighbours, none-met, comes-round, way-or-not, folds, away}
-use Rattle.collapsetold.proofs.InOrder.{away-in-order, away-lengths}
+use Rattle.collapsetold.proofs.Collapsed.{neighbours, comes-round, way-or-not, all-come, lost-lent, folds, away}
+use Rattle.collapsetold.proofs.InOrder.{fold-runs, away-in-order, away-lengths}
 use Rattle.collapsetold.proofs.Told.{Lends, judge-live, reached}
 
 -- 0 is said of steps that were not refused, with the vertices in use
@@ -116,13 +117,8 @@ module _ (c : Counts) (n : Net) (saved : List ℤ) (held list : List ℕ) (t : T
           neighbours H N rows positions (w .halfedges-thirds) (w .halfedges-lent) (w .vertices-most) (sound .in-order) (w .vertices-lent) e l .is,
         )
 
-    module _ (said-0 : result .said .number ≡ 0) where
-      short : eqb (test .number) 0 ≡ true
-      short = by-test (eqb (test .number) 0) (λ b. b) (λ b. absurd (eqb-false (test .number) 0 b (sym (ap (λ (o : Left). o .said .number) (refuses b)) ∙ said-0)))
-        where
-          refuses : eqb (test .number) 0 ≡ false → result ≡ left test rows positions saved held list
-          refuses b = reached c n saved held list t halfedge sound lends e is-e l ∙ rw b
-
+    -- the edge is short
+    module _ (short : eqb (test .number) 0 ≡ true) where
       tries : collapse-at H capacity (carries-props c) (n .references) t e (begin rows positions N) ≡ ran (short-at H capacity (carries-props c) (n .references) v e p (begin rows positions N))
       unfolding collapse-at
       tries = rw (judge-live c n saved held list t (w .halfedges-thirds) (sound .in-order) e l, short)
@@ -136,26 +132,45 @@ module _ (c : Counts) (n : Net) (saved : List ℤ) (held list : List ℕ) (t : T
           passes
           ∙ ap (λ (m : Middle). left-at (settled N rows positions m)) (ap to-settle tries ∙ settle-ran (short-at H capacity (carries-props c) (n .references) v e p (begin rows positions N)) ∙ listing)
 
+      -- where no loop is formed and the edge is not duplicated in the fan of its start, it is done
+      pub collapse-goes : NoLoop rows e → Once rows e → result .said ≡ done (whole (pos N) ∷ [])
+      collapse-goes free once =
+          let x = all-come H N rows positions (w .halfedges-thirds) (w .halfedges-lent) (w .vertices-most) (sound .in-order) (w .vertices-lent) e l capacity (carries-props c) (n .references) neighbours-listed in
+          let near = way-or-not H N rows positions (w .halfedges-thirds) (w .halfedges-lent) (w .vertices-most) (sound .in-order) (w .vertices-lent) e l capacity (carries-props c) (n .references) neighbours-listed in
+          let round = comes-round H N rows positions (w .halfedges-thirds) (w .halfedges-lent) (w .vertices-most) (sound .in-order) (w .vertices-lent) e l in
+          let f = folds H N rows positions (w .halfedges-thirds) (w .halfedges-lent) (w .vertices-most) (sound .in-order) (w .vertices-lent) e l capacity (carries-props c) (n .references) neighbours-listed refl free in
+          let room = lost-lent H N rows positions (w .halfedges-thirds) (w .halfedges-lent) (w .vertices-most) (sound .in-order) (w .vertices-lent) e l in
+          let runs : steps .run ≡ running N Going =
+          ap (λ (m : Middle). m .run) f
+          ∙ fold-runs H N rows (w .halfedges-thirds) (w .halfedges-lent) (sound .in-order) e l (carries-props c) (n .references) (x .left) (x .told) near round once (put-triple (start-vertex rows e) nan positions) (w .vertices-most) room in
+          ap (λ (o : Left). o .said) settles ∙ ap (λ (r : Run). how-said (r .vertices) (r .how)) (settled-run N rows positions steps ∙ runs)
+
+    module _ (said-0 : result .said .number ≡ 0) where
+      short : eqb (test .number) 0 ≡ true
+      short = by-test (eqb (test .number) 0) (λ b. b) (λ b. absurd (eqb-false (test .number) 0 b (sym (ap (λ (o : Left). o .said .number) (refuses b)) ∙ said-0)))
+        where
+          refuses : eqb (test .number) 0 ≡ false → result ≡ left test rows positions saved held list
+          refuses b = reached c n saved held list t halfedge sound lends e is-e l ∙ rw b
+
       zero-said : how-said (steps .run .vertices) (steps .run .how) .number ≡ 0
       zero-said =
           sym (ap (λ (r : Run). how-said (r .vertices) (r .how) .number) (settled-run N rows positions steps))
-          ∙ sym (ap (λ (o : Left). o .said .number) settles) ∙ said-0
+          ∙ sym (ap (λ (o : Left). o .said .number) (settles short)) ∙ said-0
 
       went : refused steps ≡ false
       went = how-zero (steps .run .vertices) (steps .run .how) zero-said
 
       leaves : result ≡ left-at steps
-      leaves = settles ∙ ap left-at (settled-going N rows positions steps went)
+      leaves = settles short ∙ ap left-at (settled-going N rows positions steps went)
 
       -- where no loop is formed
       pub collapse-done : NoLoop rows e → Done H N (halfedge-capacity c n) e (carries-props c) (n .references) rows positions saved held list result
       collapse-done free =
-          let no-loop = none-met H N rows positions (w .halfedges-thirds) (w .halfedges-lent) (w .vertices-most) (sound .in-order) (w .vertices-lent) e l capacity (carries-props c) (n .references) neighbours-listed refl free in
-          let f = folds H N rows positions (w .halfedges-thirds) (w .halfedges-lent) (w .vertices-most) (sound .in-order) (w .vertices-lent) e l capacity (carries-props c) (n .references) neighbours-listed no-loop went in
+          let f = folds H N rows positions (w .halfedges-thirds) (w .halfedges-lent) (w .vertices-most) (sound .in-order) (w .vertices-lent) e l capacity (carries-props c) (n .references) neighbours-listed refl free in
           let same : steps .run .vertices ≡ N = ap (λ (m : Middle). m .run .vertices) f ∙ fold-same H (move rows p) _ in
           rw leaves (record {
             said = how-done (steps .run .vertices) (steps .run .how) zero-said ∙ ap (λ (u : ℕ). done (whole (pos u) ∷ [])) same;
-            away = away H N rows positions (w .halfedges-thirds) (w .halfedges-lent) (w .vertices-most) (sound .in-order) (w .vertices-lent) e l capacity (carries-props c) (n .references) neighbours-listed no-loop went;
+            away = away H N rows positions (w .halfedges-thirds) (w .halfedges-lent) (w .vertices-most) (sound .in-order) (w .vertices-lent) e l capacity (carries-props c) (n .references) neighbours-listed refl free;
             rows-saved = refl;
             positions-held = refl;
             list-cleared = refl;

@@ -16,16 +16,17 @@ use Rattle.net.specs.Counts.{most-vertices}
 use Rattle.net.specs.Sound.{partner, Empty, DeadRow, LiveRow, InOrder, Live}
 use Rattle.net.proofs.Sound.{live-row, live-or-dead, empty-not-live, next-live, partner-live, pair-involution}
 use Rattle.triangles.specs.Triangles.{Outside}
-use Rattle.steps.specs.Steps.{begin}
+use Rattle.steps.specs.Steps.{begin, running, Going}
 use Rattle.steps.proofs.Frame.{Frame}
 use Rattle.folds.specs.Folds.{fold}
 use Rattle.folds.proofs.Kept.{frame-fold}
-use Rattle.foldsound.proofs.Steps.{fold-in-order}
+use Rattle.foldsound.proofs.Steps.{fold-goes, fold-in-order}
 use Rattle.walks.specs.Way.{move, Reached, OnWay}
 use Rattle.foldsound.specs.Removed.{Former, Latter, Outer}
 use Rattle.foldsound.proofs.Edge.{Inside, side, outer-next, partner-outer}
 use Rattle.loopsound.proofs.Ways.{way-live, way-first, way-step, way-unstep, way-last}
 use Rattle.collapsetold.specs.Collapsed.{About, JoinedTwice, Joined, twice, only-former, only-latter, both, Collapsed, CollapsedAway, Once}
+use Rattle.collapsetold.proofs.Collapsed.{fold-empty}
 
 -- a number in a row that names one below N
 abbrev Names : ℕ → ℤ → Type 0
@@ -421,6 +422,14 @@ module _ (H N : ℕ) (R : List ℤ) (thirds : H % 3 ≡ 0) (lent : H ≤ lent-ha
       go (only-former f nl j) = so (j .y-outer)
       go (only-latter nf f j) = absurd (n f)
       go (both f g j) = absurd (n g)
+
+  -- and what remove_if_folded's step does there goes on
+  pub fold-runs : (Q : List ℕ) → N ≤ most-vertices → N ≤ lent-triples Q → fold H a (begin X Q N) .run ≡ running N Going
+  fold-runs Q few room = go (ℕ-discrete d (next p))
+    where
+      go : Dec (Latter R e p) → fold H a (begin X Q N) .run ≡ running N Going
+      go (yes q) = rw (fold-empty H a N X Q (subst (Empty X) (sym (back-to (on (on l)) q)) (k .e-dead .third)))
+      go (no n) = fold-goes H N X thirds (rw (k .same-length) lent) few still-in-order a (first-live n) Q room
 
 -- and so after what has folded is taken out
 module _ (H N : ℕ) (R : List ℤ) (P : List ℕ) (thirds : H % 3 ≡ 0) (lent : H ≤ lent-halfedges R) (few : N ≤ most-vertices) (in-order : (h : ℕ) → h < H → InOrder H N R h)

@@ -24,11 +24,12 @@ use Rattle.net.specs.Sound.{partner, InOrder, Live}
 use Rattle.net.proofs.Sound.{live-row, next-live}
 use Rattle.turning.specs.Fan.{iter}
 use Rattle.turning.proofs.Orbit.{iter-suc}
+use Rattle.steps.specs.Steps.{Middle, refused, with-rows}
 use Rattle.walks.specs.Walk.{onward, moved, walk}
 use Rattle.walks.specs.Way.{move, OnWay}
 use Rattle.walks.proofs.Kept.{length-moved, other-moved}
 use Rattle.walks.proofs.Told.{moved-end, moved-start, unmoved-end, unmoved-start, move-live, AsTold, way-on}
-use Rattle.rings.specs.Ring.{Listing, ringed, listed-first, ring, carried, find, Fixed}
+use Rattle.rings.specs.Ring.{Listing, ringed, listed-first, ring, carried, find, Turned, out, on, formed, Fixed, turn-at, turn-once, Spun, spun, tired, inner, spin}
 use Rattle.rings.proofs.Kept.{carried-kept}
 use Rattle.collapsetold.specs.Plain.{carry, along, meets}
 use Rattle.collapsetold.specs.Collapsed.{prop-by}
@@ -251,6 +252,50 @@ module _ (H N : ℕ) (R : List ℤ) (thirds : H % 3 ≡ 0) (lent : H ≤ lent-ha
 
         nowhere : (here ≡ next (next e) → ⊥) → find (carry s here l) (endOf (carry s here l) (next here)) list 0 len ≡ nothing
         nowhere m = find-nowhere (carry s here l) (endOf (carry s here l) (next here)) list len 0 (λ i c d q. off here (on-way (next (next e)) m refl) i (omega arith) (sym (ends (next here)) ∙ q ∙ ends (getD list i 0)))
+
+    -- such a walk is not refused where it comes to its end
+    tired-there : (c : ℕ) (m : Middle) → c ≡ next (next e) → tired (next (next e)) c m ≡ m
+    unfolding tired
+    tired-there c m q = by-test (refused m) (λ t. rw t) (λ t. rw (t, eq-eqb c (next (next e)) q))
+
+    turn-out : (len c : ℕ) (m : Middle) → eqb c (next (next e)) ≡ true → turn-once s len c m ≡ out m
+    unfolding turn-once
+    turn-out len c m q = by-test (refused m) (λ t. rw t) (λ t. rw (t, q))
+
+    turn-on : (len c q : ℕ) (m : Middle) → refused m ≡ false → eqb c (next (next e)) ≡ false → names (pairOf (carry s c (m .halfedges)) (next c)) H ≡ at q →
+        find (carry s c (m .halfedges)) (endOf (carry s c (m .halfedges)) (next c)) list 0 len ≡ nothing → turn-once s len c m ≡ on (with-rows (carry s c (m .halfedges)) m) q
+    unfolding turn-once turn-at
+    turn-on len c q m g t u w = rw (g, t, u, w)
+
+    inner-goes : (anew : Middle → ℕ → ℕ → Spun) (len from n k here : ℕ) (m : Middle) → refused m ≡ false → Live H R here → SamePairs (next (next e)) here (m .halfedges) →
+        ((g : ℕ) → OnWay R here (next (next e)) g → (i : ℕ) → i < len → endOf (m .halfedges) (next g) ≡ endOf (m .halfedges) (getD list i 0) → ⊥) →
+        k ≤ n → iter (move R) k here ≡ next (next e) → refused (inner anew s n from len here m .middle) ≡ false
+    unfolding inner
+    inner-goes anew len from zero k here m g a same off b q =
+        ap (λ (x : Middle). refused x) (tired-there here m (ap (λ (i : ℕ). iter (move R) i here) (let z : 0 ≡ k = omega arith in z) ∙ q)) ∙ g
+    inner-goes anew len from (suc n) k here m g a same off b q =
+        by-test (eqb here (next (next e)))
+        (λ t. rw (turn-out len here m t) g)
+        (λ t. let o = eqb-false here (next (next e)) t in
+        let f = fewer (next (next e)) here n k o b q in
+        rw (turn-on len here (move R here) m g t (goes (next (next e)) (carry s here (m .halfedges)) (carry-same here (m .halfedges) same) a o) (nowhere o))
+        (inner-goes anew len from n (f .0) (move R here) (with-rows (carry s here (m .halfedges)) m) g (live-on (next (next e)) a)
+        (λ i w. carry-same here (m .halfedges) same i (way-on H N R thirds lent in-order o w))
+        (λ i w j c r. off i (way-on H N R thirds lent in-order o w) j c (sym (ends (next i)) ∙ r ∙ ends (getD list j 0)))
+        (f .1 .0) (f .1 .1)))
+      where
+        ends : (g : ℕ) → endOf (carry s here (m .halfedges)) g ≡ endOf (m .halfedges) g
+        ends g = carried-other end (λ q. omega arith) props references e p (next here) g (m .halfedges)
+
+        nowhere : (here ≡ next (next e) → ⊥) → find (carry s here (m .halfedges)) (endOf (carry s here (m .halfedges)) (next here)) list 0 len ≡ nothing
+        nowhere o = find-nowhere (carry s here (m .halfedges)) (endOf (carry s here (m .halfedges)) (next here)) list len 0 (λ i c d q. off here (on-way (next (next e)) o refl) i (omega arith) (sym (ends (next here)) ∙ q ∙ ends (getD list i 0)))
+
+    pub spin-goes : (r len from n k here : ℕ) (m : Middle) → refused m ≡ false → Live H R here → SamePairs (next (next e)) here (m .halfedges) →
+        ((g : ℕ) → OnWay R here (next (next e)) g → (i : ℕ) → i < len → endOf (m .halfedges) (next g) ≡ endOf (m .halfedges) (getD list i 0) → ⊥) →
+        k ≤ n → iter (move R) k here ≡ next (next e) → refused (spin r s n from len here m .middle) ≡ false
+    unfolding spin
+    spin-goes zero len from n k here m g a same off b q = inner-goes (λ x i j. spun x i) len from n k here m g a same off b q
+    spin-goes (suc r) len from n k here m g a same off b q = inner-goes (λ x i j. spin r s (s .halfedges) i j i x) len from n k here m g a same off b q
 
     -- the free rows, and how many there are
     pub along-kept : (n here : ℕ) (l : List ℤ) → here < H → (rows-from H (along s n here l) ≡ rows-from H l) × (length (along s n here l) ≡ length l)
