@@ -114,15 +114,7 @@ macro_rules! on_the_whole {
             let capacity = arrays.halfedges_length / 4;
             work.words(capacity + $words);
             work.list(capacity);
-            let told = spares!(
-                $entry,
-                arrays,
-                work,
-                work.words.as_mut_ptr(),
-                work.words.len(),
-                work.list.as_mut_ptr(),
-                work.list.len()
-            );
+            let told = spares!($entry, arrays, work, work.words.as_mut_ptr(), work.words.len(), work.list.as_mut_ptr(), work.list.len());
             Refusal::unless_sound_and_done(told.number, told.row, InUse { halfedges: told.halfedges, vertices: told.vertices })
         })
     }};
@@ -181,10 +173,7 @@ impl<L: Layout> NetMut<'_, L> {
 
     /// What the bounds leave.
     fn bounds(&self) -> Room {
-        Room {
-            triangles: MOST_TRIANGLES.saturating_sub(self.halfedges.len() / 3),
-            vertices: MOST_VERTICES.saturating_sub(self.positions.len()),
-        }
+        Room { triangles: MOST_TRIANGLES.saturating_sub(self.halfedges.len() / 3), vertices: MOST_VERTICES.saturating_sub(self.positions.len()) }
     }
 
     /// Sees to it that there is so much room. `exactly` is for operations on the whole net; an operation on one edge leaves more, as `push` does.
@@ -361,14 +350,7 @@ impl<L: Layout> NetMut<'_, L> {
         let mut vertices = self.spare(Room { triangles: 0, vertices: (used.vertices / 8 + 1024).min(used.halfedges / 2).min(most) }).vertices;
         loop {
             let arrays = self.lend(Room { triangles: 0, vertices })?;
-            let told = call!(
-                spoonferret_split_pinched_verts,
-                arrays,
-                work.words.as_mut_ptr(),
-                work.words.len(),
-                work.list.as_mut_ptr(),
-                work.list.len()
-            );
+            let told = call!(spoonferret_split_pinched_verts, arrays, work.words.as_mut_ptr(), work.words.len(), work.list.as_mut_ptr(), work.list.len());
             let said = Refusal::unless_sound_and_done(told.number, told.row, ());
             if said == Err(Refusal::NoRoom) {
                 let wanted = work.copies(&arrays);
@@ -441,17 +423,7 @@ impl<L: Layout> NetMut<'_, L> {
                 arrays.references = work.faces.as_mut_ptr();
                 arrays.references_length = work.faces.len();
             }
-            let told = spares!(
-                spoonferret_collapse_edge,
-                arrays,
-                work,
-                work.list.as_mut_ptr(),
-                work.list.len(),
-                halfedge,
-                first_new_vert,
-                tol,
-                epsilon
-            );
+            let told = spares!(spoonferret_collapse_edge, arrays, work, work.list.as_mut_ptr(), work.list.len(), halfedge, first_new_vert, tol, epsilon);
             if told.number == 8 {
                 return Err(Refusal::Long { squared_length: f64::from_bits(told.squared_length), limit: f64::from_bits(told.limit) });
             }

@@ -4,7 +4,7 @@ use crate::lending::Arrays;
 use std::cell::Cell;
 
 /// The work buffers, lists and spares that operations borrow. They grow when a call needs more, and stay: a second call on a net of the same size allocates
-/// nothing. Of a net of T triangles and V vertices the dearest call keeps 72 T + 24 V bytes for spares, 24 T + 4 V for its work buffer and list, and 12 T in
+/// nothing. Of a net of T triangles and V vertices the dearest call keeps 48 T + 24 V bytes for spares, 24 T + 4 V for its work buffer and list, and 12 T in
 /// the place of references.
 ///
 /// ```
@@ -77,15 +77,7 @@ impl Workspace {
         let used = arrays.used;
         self.bytes(used.halfedges.max(used.vertices));
         self.list(used.halfedges);
-        let told = call!(
-            spoonferret_orbit_owners,
-            arrays,
-            self.bytes.as_mut_ptr(),
-            self.bytes.len(),
-            self.list.as_mut_ptr(),
-            self.list.len(),
-            false
-        );
+        let told = call!(spoonferret_orbit_owners, arrays, self.bytes.as_mut_ptr(), self.bytes.len(), self.list.as_mut_ptr(), self.list.len(), false);
         // the scan left its bytes zero, and they are left so
         let mut vertices = 0;
         for &owner in &self.list[..told.count] {
