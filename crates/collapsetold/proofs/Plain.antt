@@ -7,7 +7,7 @@ use native.Mathlib.Omega.{arith}
 use borrow.Author.Tests.{lt-leb}
 use lib.Dec.{eqb}
 use lib.IntN.{ℤ}
-use lib.ListN.{length, getD}
+use lib.ListN.{getD}
 use Rattle.laws.proofs.Tests.{by-test}
 use Rattle.numbers.specs.Numbers.{Named, at, nothing, names, named-or, is-named}
 use Rattle.numbers.specs.Next.{next}
@@ -24,8 +24,7 @@ use Rattle.triangles.proofs.Told.{collapse-goes}
 use Rattle.folds.specs.Folds.{nan, most, lose}
 use Rattle.loops.specs.Loops.{loop-at}
 use Rattle.rings.specs.Ring.{Fixed, carried, find, Turned, out, on, formed, turn-at, turn-once, Spun, spun, after, tired, inner, spin}
-use Rattle.collapsing.specs.Collapse.{close, about}
-use Rattle.collapsetold.specs.Plain.{carry, along, meets, Plain, PlainRow}
+use Rattle.collapsetold.specs.Plain.{carry, along, meets, Plain}
 
 or-false : (a b : Bool) → a || b ≡ false → (a ≡ false) × (b ≡ false)
 or-false true b e = absurd (true≢false e)
@@ -70,22 +69,6 @@ spin-plain s (suc r) n start len c m g e = inner-plain s (λ k q j. spin r s (s 
 -- what stays the same in a collapse of e with this list
 abbrev pub around : ℕ → ℕ → Bool → List ℤ → ℕ → ℕ → List ℕ → Fixed
 around H capacity props references e p l = record { halfedges = H; capacity = capacity; props = props; references = references; edge = e; partner = p; list = l }
-
-pub about-plain : (H capacity : ℕ) (props : Bool) (references : List ℤ) (v e p first : ℕ) (l : List ℕ) (m : Middle) →
-    refused (collapse H p (lose e m)) ≡ false →
-    meets (around H capacity props references e p l) (length l) H first (collapse H p (lose e m) .halfedges) ≡ false →
-    PlainRow (around H capacity props references e p l) v first (collapse H p (lose e m)) (about H capacity props references v e p first l m)
-unfolding about close
-about-plain H capacity props references v e p first l m g d =
-    let s = around H capacity props references e p l in
-    let x = spin-plain s (length l) H first (length l) first (collapse H p (lose e m)) g d in
-    record {
-      carrying = spin (length l) s H first (length l) first (collapse H p (lose e m)) .middle;
-      rows = x .rows;
-      positions = x .positions;
-      vertices = x .vertices;
-      is = rw (x .starts);
-    }
 
 -- on rows in order and at a live edge the steps before the loop go on: the start's position is NaN, and the partner's triangle is taken out,
 -- its outer partners joined

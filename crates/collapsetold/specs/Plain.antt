@@ -9,9 +9,6 @@ use Rattle.numbers.specs.Numbers.{names, named-or, is-named}
 use Rattle.numbers.specs.Next.{next}
 use Rattle.rows.specs.Halfedges.{endOf, pairOf}
 use Rattle.steps.specs.Steps.{Middle}
-use Rattle.walks.specs.Walk.{update}
-use Rattle.triangles.specs.Triangles.{collapse}
-use Rattle.folds.specs.Folds.{fold}
 use Rattle.rings.specs.Ring.{Fixed, carried, find, Spun}
 
 -- the rows after the prop of the half-edge behind c was carried
@@ -39,12 +36,3 @@ pub record Plain (s : Fixed) (n c start : ℕ) (m : Middle) (x : Spun) : Type 0 
   pub rows : x .middle .halfedges ≡ along s n c (m .halfedges)
   pub positions : x .middle .positions ≡ m .positions
   pub vertices : x .middle .run .vertices ≡ m .run .vertices
-
--- a collapse then, as a row of plain steps: `begun` is what the start lost and the partner's triangle taken out leave; the props are carried;
--- the rest of the start's fan is updated to v, the edge's triangle taken out, and what has folded at `first`
-pub record PlainRow (s : Fixed) (v first : ℕ) (begun after : Middle) : Type 0 where
-  pub carrying : Middle
-  pub rows : carrying .halfedges ≡ along s (s .halfedges) first (begun .halfedges)
-  pub positions : carrying .positions ≡ begun .positions
-  pub vertices : carrying .run .vertices ≡ begun .run .vertices
-  pub is : after ≡ fold (s .halfedges) first (collapse (s .halfedges) (s .edge) (update (s .halfedges) v first (next (next (s .edge))) carrying))
