@@ -104,8 +104,7 @@ fn apart(which: usize, net: &Lent, left: &Lent, asked: &Asked, number: u32) -> (
             let [first, second] = [asked.numbers[0], asked.numbers[1]];
             let dead = |l: &Lent| rows(l).iter().filter(|r| r[2] < 0).count();
             match first != second && dead(net) == dead(left) {
-                true if first / 3 == second / 3 => (1, 0),
-                true => (1, 1 + (first > second) as usize),
+                true => (1, 2 * (first > second) as usize + (first % 2 == second % 2) as usize),
                 false => (0, 0),
             }
         }
