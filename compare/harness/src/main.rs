@@ -57,15 +57,17 @@ struct Table {
     lines: Vec<Line>,
     /// the module edge_op of the Rust crate, on the same nets
     names: Vec<Line>,
+    /// of each entry one call in so many is made there too
+    share: u64,
     only: Option<usize>,
     began: Instant,
     shown: Instant,
 }
 
 impl Table {
-    fn new(only: Option<usize>) -> Table {
+    fn new(only: Option<usize>, share: u64) -> Table {
         let lines = || ALL.iter().map(|_| Line::default()).collect();
-        Table { lines: lines(), names: lines(), only, began: Instant::now(), shown: Instant::now() }
+        Table { lines: lines(), names: lines(), share, only, began: Instant::now(), shown: Instant::now() }
     }
 
     fn run(&mut self, which: usize, net: &Lent, asked: &Asked) {
@@ -73,8 +75,10 @@ impl Table {
             return;
         }
         self.lines[which].take(&ALL[which], which, net, asked);
-        if let Some((number, wrong)) = names::beside(&ALL[which], net, asked) {
-            self.names[which].count(number, wrong, &ALL[which], which, net, asked);
+        if self.lines[which].calls % self.share == 0 {
+            if let Some((number, wrong)) = names::beside(&ALL[which], net, asked) {
+                self.names[which].count(number, wrong, &ALL[which], which, net, asked);
+            }
         }
         if self.shown.elapsed().as_secs() >= 5 {
             self.shown = Instant::now();
@@ -153,7 +157,7 @@ fn entry_named(name: &str) -> usize {
 
 /// `times` is the size: 1 quick, 10 whole, 0 a few calls of each kind (for a run under memcheck).
 fn compare(times: usize, only: Option<usize>, chance: &mut Chance) {
-    let table = &mut Table::new(only);
+    let table = &mut Table::new(only, if times == 1 { 4 } else { 1 });
     // how much each entry is asked of each of many nets that are nearly the same
     let few = if times > 1 { 3 } else { 2 };
 
