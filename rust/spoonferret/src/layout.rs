@@ -25,6 +25,28 @@ pub unsafe trait Layout: Sized {
 /// It is four `i32` and nothing besides, in the order start, end, pair, prop.
 pub unsafe trait HalfedgeRow<L>: Copy {}
 
+/// The types that fields must have, for [`layout!`](crate::layout): each trait is that of one type, and nobody can give it to another.
+#[doc(hidden)]
+pub mod fits {
+    mod sealed {
+        pub trait I32 {}
+        impl I32 for i32 {}
+        pub trait F64 {}
+        impl F64 for f64 {}
+    }
+
+    #[diagnostic::on_unimplemented(message = "spoonferret: each field of a half-edge must be an i32, and this one is `{Self}`", label = "a field that is not an i32")]
+    pub trait Integer: sealed::I32 {}
+    impl Integer for i32 {}
+
+    #[diagnostic::on_unimplemented(message = "spoonferret: each field of a vector must be an f64, and this one is `{Self}`", label = "a field that is not an f64")]
+    pub trait Coordinate: sealed::F64 {}
+    impl Coordinate for f64 {}
+
+    pub const fn integer<T: Integer>(_: *const T) {}
+    pub const fn coordinate<T: Coordinate>(_: *const T) {}
+}
+
 /// Names the types that a net's rows have, and proves that the library can use them as they are.
 ///
 /// Of each type its fields are named in the library's order: of a half-edge start, end, pair and prop, each an `i32`; of a vector (position or normal) x, y and z,
@@ -133,16 +155,17 @@ macro_rules! layout {
             assert!(offset_of!($vector, $y) == 8, "spoonferret: the y of a vector must be its second field in memory: give it #[repr(C)]");
             assert!(offset_of!($vector, $z) == 16, "spoonferret: the z of a vector must be its third field in memory: give it #[repr(C)]");
             // the fields' own types: a pointer to a field is not turned into one to another type
-            let _: fn(&$halfedge) -> [*const i32; 4] = |row| {
-                [
-                    ::core::ptr::addr_of!(row.$start),
-                    ::core::ptr::addr_of!(row.$end),
-                    ::core::ptr::addr_of!(row.$pair),
-                    ::core::ptr::addr_of!(row.$prop),
-                ]
+            let _: fn(&$halfedge) = |row| {
+                $crate::fits::integer(::core::ptr::addr_of!(row.$start));
+                $crate::fits::integer(::core::ptr::addr_of!(row.$end));
+                $crate::fits::integer(::core::ptr::addr_of!(row.$pair));
+                $crate::fits::integer(::core::ptr::addr_of!(row.$prop));
             };
-            let _: fn(&$vector) -> [*const f64; 3] =
-                |row| [::core::ptr::addr_of!(row.$x), ::core::ptr::addr_of!(row.$y), ::core::ptr::addr_of!(row.$z)];
+            let _: fn(&$vector) = |row| {
+                $crate::fits::coordinate(::core::ptr::addr_of!(row.$x));
+                $crate::fits::coordinate(::core::ptr::addr_of!(row.$y));
+                $crate::fits::coordinate(::core::ptr::addr_of!(row.$z));
+            };
         };
 
         // SAFETY: the constants above hold, or this is not compiled: the named fields have these types and offsets and fill the type

@@ -44,6 +44,8 @@ mod refusal;
 mod rows;
 mod workspace;
 
+#[doc(hidden)]
+pub use layout::fits;
 pub use layout::{HalfedgeRow, Layout, Own};
 pub use net::{Eligible, Net};
 pub use net_mut::{NetMut, Split};
