@@ -7,7 +7,7 @@ use borrow.Author.Tests.{ltb-true, lt-ltb}
 use lib.Dec.{ltb}
 use lib.IntN.{ℤ, pos, negsuc}
 use Rattle.laws.proofs.Tests.{by-test}
-use Rattle.numbers.specs.Numbers.{Named, at, nothing, names}
+use Rattle.numbers.specs.Numbers.{Named, at, nothing, names, is-named}
 
 pub at-inj : {m n : ℕ} → at m ≡ at n → m ≡ n
 at-inj e = cc
@@ -30,3 +30,7 @@ names-below z limit {p} e = told z limit p e .1
 
 pub names-at : (z : ℤ) (limit p : ℕ) → z ≡ pos p → p < limit → names z limit ≡ at p
 names-at z limit p e l = rw (e, lt-ltb p limit l)
+
+-- whether a number of 0 or more is named is a test
+pub named-below : (n limit : ℕ) → is-named (names (pos n) limit) ≡ ltb n limit
+named-below n limit = by-test (ltb n limit) (λ t. rw t) (λ t. rw t)

@@ -3,7 +3,10 @@
 // The number inside is private to this crate. So one is made here alone: where a row's number is read, and at three places
 // besides, a caller's number after its test, a scan's counter and the number of an appended row.
 ghost use mathlib.Core.Path.{_≡_};
+ghost use mathlib.Core.Bool.{true};
 ghost use Prim.Native.Nat.{_<_};
+ghost use lib.IntN.{pos};
+ghost use lib.Signed.{leZ};
 ghost use Rattle.numbers.specs.Numbers.{halfedgeNumber, vertexNumber, propRowNumber, names, is-named, placed, halfedgeNamed, vertexNamed, propRowNamed};
 ghost use Rattle.numbers.specs.Next.{next, nextAnswer, nextSaid, triAnswer, triSaid, most-halfedges};
 
@@ -34,6 +37,14 @@ enum Place {
     Nothing,
 }
 
+// A signed number that is 0 or more.
+fn known(x: i32) -> usize
+    requires { ⌜ leZ (pos 0) x ≡ true ⌝ }
+    ensures { λ r. ⌜ x ≡ pos r ⌝ }
+{
+    x as usize
+}
+
 // A signed number as one of 0..limit.
 fn place_of(x: i32, limit: usize) -> Place
     ensures { λ r. ⌜ placed r ≡ names x limit ⌝ }
@@ -41,7 +52,7 @@ fn place_of(x: i32, limit: usize) -> Place
     if x < 0 {
         return Place::Nothing;
     }
-    let i = x as usize;
+    let i = known(x);
     if i < limit {
         Place::At(i)
     } else {
@@ -67,6 +78,30 @@ pub fn halfedge_read(x: i32, rows: usize) -> NamedHalfedge
         Place::At(i) => NamedHalfedge::At(Halfedge(i)),
         Place::Nothing => NamedHalfedge::Nothing,
     }
+}
+
+// A row's number that is 0 or more, as a half-edge.
+pub fn halfedge_known(x: i32) -> Halfedge
+    requires { ⌜ leZ (pos 0) x ≡ true ⌝ }
+    ensures { λ r. ⌜ x ≡ pos (halfedgeNumber r) ⌝ }
+{
+    Halfedge(known(x))
+}
+
+// A row's number that is 0 or more, as a vertex.
+pub fn vertex_known(x: i32) -> Vertex
+    requires { ⌜ leZ (pos 0) x ≡ true ⌝ }
+    ensures { λ r. ⌜ x ≡ pos (vertexNumber r) ⌝ }
+{
+    Vertex(known(x))
+}
+
+// A row's number that is 0 or more is one of 0..limit.
+pub fn is_below(x: i32, limit: usize) -> bool
+    requires { ⌜ leZ (pos 0) x ≡ true ⌝ }
+    ensures { λ r. ⌜ r ≡ is-named (names x limit) ⌝ }
+{
+    known(x) < limit
 }
 
 // The number that a row holds, read as a vertex.

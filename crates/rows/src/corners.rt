@@ -1,7 +1,7 @@
 // Tests of the rows of one triangle, which are read as a stretch: `tri` is the part of the half-edge array that starts at
 // the triangle's first row, and its corners are numbered 0, 1 and 2.
 ghost use mathlib.Core.Path.{_≡_};
-ghost use mathlib.Core.Bool.{_&&_};
+ghost use mathlib.Core.Bool.{true, _&&_};
 ghost use Prim.Native.Nat.{_<_, _^_};
 ghost use lib.IntN.{pos};
 ghost use lib.ListN.{length, getD};
@@ -147,6 +147,31 @@ pub fn mirrored(tri: &[i32], k: usize, rows: &[i32], h: Halfedge, p: Halfedge) -
     is_at(rows, i + PAIR, h.number())
         & same_at(rows, i + START, tri, WIDTH * k + END)
         & same_at(rows, i + END, tri, WIDTH * k + START)
+}
+
+// The corner, which starts at 0 or more, starts at one of `vertices`.
+pub fn start_below(tri: &[i32], k: usize, vertices: usize) -> bool
+    requires { ⌜ (k < lent-halfedges (now tri)) × (is-started (now tri) k ≡ true) ⌝ }
+    ensures { λ r. ⌜ r ≡ is-named (names (startOf (now (tri .entry)) k) vertices) ⌝ }
+{
+    numbers::is_below(tri[WIDTH * k + START], vertices)
+}
+
+// The partner of a corner that has one.
+pub fn partner_known(tri: &[i32], k: usize) -> Halfedge
+    requires { ⌜ (k < lent-halfedges (now tri)) × (is-paired (now tri) k ≡ true) ⌝ }
+    ensures { λ r. ⌜ pairOf (now (tri .entry)) k ≡ pos (halfedgeNumber r) ⌝ }
+{
+    numbers::halfedge_known(tri[WIDTH * k + PAIR])
+}
+
+// Row p has h as its pair, and starts where the corner starts.
+pub fn met(tri: &[i32], k: usize, rows: &[i32], h: Halfedge, p: Halfedge) -> bool
+    requires { ⌜ (k < lent-halfedges (now tri)) × ((halfedgeNumber p < lent-halfedges (now rows)) × (halfedgeNumber h < 2 ^ 31)) ⌝ }
+    ensures { λ r. ⌜ r ≡ eqZ (pairOf (now (rows .entry)) (halfedgeNumber p)) (pos (halfedgeNumber h)) && eqZ (startOf (now (rows .entry)) (halfedgeNumber p)) (startOf (now (tri .entry)) k) ⌝ }
+{
+    let i = WIDTH * p.number();
+    is_at(rows, i + PAIR, h.number()) & same_at(rows, i + START, tri, WIDTH * k + START)
 }
 
 // Half-edge h starts at v.

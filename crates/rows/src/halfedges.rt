@@ -1,10 +1,11 @@
 // Half-edge rows of four numbers each: start, end, pair and prop.
 ghost use mathlib.Core.Path.{_≡_};
+ghost use mathlib.Core.Bool.{true};
 ghost use Prim.Native.Nat.{_+_, _<_, _≤_, _^_};
 ghost use lib.IntN.{pos};
 ghost use lib.ListN.{length, set};
 ghost use Rattle.numbers.specs.Numbers.{names, halfedgeNumber, vertexNumber, propRowNumber, halfedgeNamed, vertexNamed, propRowNamed};
-ghost use Rattle.rows.specs.Halfedges.{startOf, endOf, pairOf, propOf, start, end, pair, prop, set-column, none, empty-row, lent-halfedges, rows-from, append-row, append-triangle, over-rows, zero-rows, width};
+ghost use Rattle.rows.specs.Halfedges.{startOf, endOf, pairOf, propOf, start, end, pair, prop, set-column, none, is-started, is-paired, empty-row, lent-halfedges, rows-from, append-row, append-triangle, over-rows, zero-rows, width};
 use numbers::Halfedge;
 use numbers::NamedHalfedge;
 use numbers::NamedPropRow;
@@ -63,6 +64,24 @@ pub fn pair_of(rows: &[i32], h: Halfedge, halfedges: usize) -> NamedHalfedge
 {
     let i = WIDTH * h.number() + PAIR;
     numbers::halfedge_read(rows[i], halfedges)
+}
+
+// The vertex where h starts, which is 0 or more.
+pub fn start_known(rows: &[i32], h: Halfedge) -> Vertex
+    requires { ⌜ (halfedgeNumber h < lent-halfedges (now rows)) × (is-started (now rows) (halfedgeNumber h) ≡ true) ⌝ }
+    ensures { λ r. ⌜ startOf (now (rows .entry)) (halfedgeNumber h) ≡ pos (vertexNumber r) ⌝ }
+{
+    let i = WIDTH * h.number() + START;
+    numbers::vertex_known(rows[i])
+}
+
+// The partner of h, which has one.
+pub fn pair_known(rows: &[i32], h: Halfedge) -> Halfedge
+    requires { ⌜ (halfedgeNumber h < lent-halfedges (now rows)) × (is-paired (now rows) (halfedgeNumber h) ≡ true) ⌝ }
+    ensures { λ r. ⌜ pairOf (now (rows .entry)) (halfedgeNumber h) ≡ pos (halfedgeNumber r) ⌝ }
+{
+    let i = WIDTH * h.number() + PAIR;
+    numbers::halfedge_known(rows[i])
 }
 
 // The property row of h, among `properties`.
