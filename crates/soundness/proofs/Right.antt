@@ -18,7 +18,7 @@ use Rattle.net.specs.Sound.{partner, start-vertex, end-vertex, Paired, Empty, D
 use Rattle.soundness.specs.Order.{empty3, paired3, apart3, differ, mirrors, mirrored-by, live, in-order}
 
 -- a number in 0..limit is one of these
-named-is : (z : ℤ) (limit : ℕ) → is-named (names z limit) ≡ true → (z ≡ pos (natAbs z)) × (natAbs z < limit)
+pub named-is : (z : ℤ) (limit : ℕ) → is-named (names z limit) ≡ true → (z ≡ pos (natAbs z)) × (natAbs z < limit)
 named-is z limit e = go (names z limit) refl e
   where
     go : (w : Named) → names z limit ≡ w → is-named w ≡ true → (z ≡ pos (natAbs z)) × (natAbs z < limit)
@@ -46,7 +46,7 @@ module _ (rows : List ℤ) where
   is-paired-yes : (h : ℕ) → Paired rows h → is-paired rows h ≡ true
   is-paired-yes h e = rw e (le-leb 0 (partner rows h) (omega arith))
 
-  apart-yes : (g h : ℕ) → differ rows g h ≡ true → startOf rows g ≡ startOf rows h → ⊥
+  pub apart-yes : (g h : ℕ) → differ rows g h ≡ true → startOf rows g ≡ startOf rows h → ⊥
   apart-yes g h e = eqZ-false _ _ (not-true (eqZ (startOf rows g) (startOf rows h)) e)
 
   is-apart-yes : (g h : ℕ) → (startOf rows g ≡ startOf rows h → ⊥) → differ rows g h ≡ true

@@ -59,6 +59,12 @@ module _ (f : ℕ → Bool) where
   unfolding first-failing
   third-fails t p q r = rw (p, rw add-one at q, rw add-two at r, add-two t)
 
+  -- where every number passes, nothing is found
+  pub all-pass : (n i : ℕ) → ((k : ℕ) → i ≤ k → k < i + n → f k ≡ true) → nothing ≡ first-failing f n i
+  unfolding first-failing
+  all-pass zero i p = refl
+  all-pass (suc n) i p = rw (p i (omega arith) (omega arith)) (all-pass n (suc i) (λ k a b. p k (omega arith) (omega arith)))
+
   -- where nothing is found, every number passes
   pub none-fails : (n i : ℕ) → first-failing f n i ≡ nothing → (k : ℕ) → i ≤ k → k < i + n → f k ≡ true
   unfolding first-failing

@@ -16,8 +16,14 @@ Inv-loop rows halfedges vertices t₀ t =
 abbrev μ-loop : tie.MeasureT-loop
 μ-loop rows halfedges vertices t₀ t = halfedges - t
 
+is-sound-requires : tie.Need-is-sound-requires Inv-loop μ-loop
+is-sound-requires c κs = record { first = omega arith; in-use = omega arith; thirds = c .pre .0; lent = c .pre .1 .0; few = c .pre .1 .1 }
+
+returns : tie.Need-returns Inv-loop μ-loop
+returns c = c .before .is-sound .ensures (c .if1 .taken)
+
 loop-holds : tie.Need-loop-holds Inv-loop μ-loop
-loop-holds c = (omega arith, omega arith, rw (sub-zero (c .args .halfedges)))
+loop-holds c = (omega arith, omega arith, rw (sub-zero (c .before .before .args .halfedges)))
 
 halfedge-counted-requires : tie.Need-halfedge-counted-requires Inv-loop μ-loop
 halfedge-counted-requires c κs = search needs
@@ -31,16 +37,16 @@ check-triangle-requires c κs =
       part = rw (c .before .halfedge-counted .ensures) at (c .from-row .ensures);
       first = c .before .before .before .loop .inv .0;
       in-use = omega arith;
-      lent = c .before .before .before .before .pre .1 .0;
-      few = c .before .before .before .before .pre .1 .1;
+      lent = c .before .before .before .before .before .before .pre .1 .0;
+      few = c .before .before .before .before .before .before .pre .1 .1;
     }
 
 enum-known-h : tie.Need-enum-known-h Inv-loop μ-loop
 enum-known-h c = search needs
 
-returns : tie.Need-returns Inv-loop μ-loop
-returns c =
-    finds _ (c .before .before .before .before .before .before .before .before .args .halfedges) (c .before .before .before .before .before .before .before .loop .t) _ (omega arith) (rw (c .before .h .given .1) at (c .before .before .before .check-triangle .ensures)) ∙ c .before .before .before .before .before .before .before .loop .inv .2
+returns-2 : tie.Need-returns-2 Inv-loop μ-loop
+returns-2 c =
+    finds _ (c .before .before .before .before .before .before .before .before .before .before .args .halfedges) (c .before .before .before .before .before .before .before .loop .t) _ (omega arith) (rw (c .before .h .given .1) at (c .before .before .before .check-triangle .ensures)) ∙ c .before .before .before .before .before .before .before .loop .inv .2
 
 enum-told : tie.Need-enum-told Inv-loop μ-loop
 enum-told c = search needs
@@ -55,11 +61,11 @@ loop-again : tie.Need-loop-again Inv-loop μ-loop
 loop-again c = (
   omega arith,
   omega arith,
-  goes-on _ (c .before .before .before .before .before .before .before .args .halfedges) (c .before .before .before .before .before .before .loop .t) (omega arith) (rw (c .enum-told .given .1) at (c .before .before .check-triangle .ensures)) ∙ c .before .before .before .before .before .before .loop .inv .2,
+  goes-on _ (c .before .before .before .before .before .before .before .before .before .args .halfedges) (c .before .before .before .before .before .before .loop .t) (omega arith) (rw (c .enum-told .given .1) at (c .before .before .check-triangle .ensures)) ∙ c .before .before .before .before .before .before .loop .inv .2,
 )
 
-returns-2 : tie.Need-returns-2 Inv-loop μ-loop
-returns-2 c = ends _ (c .before .before .args .halfedges) (c .before .loop .t) (c .loop-test .left) ∙ c .before .loop .inv .2
+returns-3 : tie.Need-returns-3 Inv-loop μ-loop
+returns-3 c = ends _ (c .before .before .before .before .args .halfedges) (c .before .loop .t) (c .loop-test .left) ∙ c .before .loop .inv .2
 
 pub first-out-spec : {M : Type 1} → statement M
 first-out-spec =
@@ -67,14 +73,16 @@ first-out-spec =
     (tie.spec
     Inv-loop
     μ-loop
+    is-sound-requires
+    returns
     loop-holds
     halfedge-counted-requires
     from-row-requires
     check-triangle-requires
     enum-known-h
-    returns
+    returns-2
     enum-told
     add-t
     loop-less
     loop-again
-    returns-2)
+    returns-3)
