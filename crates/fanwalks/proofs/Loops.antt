@@ -7,11 +7,8 @@ use mathlib.Core.List.{List, [], _∷_}
 use Prim.Native.Nat.{ℕ, _+_, _-_, _<_}
 use native.Mathlib.Numerals.{add-one}
 use native.Mathlib.Omega.{arith}
-use lib.IntN.{ℤ, natAbs}
+use lib.IntN.{ℤ}
 use lib.ListN.{length, length-set}
-use Rattle.numbers.specs.Numbers.{names, at}
-use Rattle.numbers.specs.Next.{next}
-use Rattle.numbers.proofs.Names.{names-is}
 use Rattle.rows.specs.Halfedges.{pairOf}
 use Rattle.net.specs.Sound.{turn, Live}
 use Rattle.turning.specs.Walk.{walk, walk-end}
@@ -23,10 +20,6 @@ use Rattle.ordering.specs.Needs.{FanOrder}
 use Rattle.ordering.proofs.Walks.{entry-home, entry-elsewhere}
 use Rattle.splitting.proofs.Net.{same-turn}
 use Rattle.splitting.proofs.Rows.{length-relabel, relabel-pair}
-
--- the next of what a pair names is one turn on
-pub turned-from : (rows : List ℤ) (H c p r : ℕ) → names (pairOf rows c) H ≡ at p → r ≡ next p → r ≡ turn rows c
-turned-from rows H c p r e f = f ∙ ap next (sym (ap natAbs (names-is (pairOf rows c) H e)))
 
 -- ---- the order, and where the walk ends
 pub record Ordering (rows : List ℤ) (H i : ℕ) (first : Bool) (steps : ℕ) (work₀ work : List ℕ) (c k left : ℕ) : Type 0 where
@@ -55,7 +48,7 @@ module _ {rows : List ℤ} {H i : ℕ} {first : Bool} {steps : ℕ} {work₀ : L
       ordering-place = omega (arith, L .places, Q .fits, walk-some (turn rows) left i c b)
 
       module _ (c′ : ℕ) (e : c′ ≡ turn rows c) where
-        pub ordering-live : Live H rows c′
+        ordering-live : Live H rows c′
         ordering-live = subst (Live H rows) (sym e) (Q .round .goes (L .live))
 
         -- one turn more of the walk

@@ -10,11 +10,10 @@ ghost use Rattle.net.specs.Sound.{partner, turn, Live};
 ghost use Rattle.turning.specs.Walk.{walk};
 ghost use Rattle.splitting.specs.Needs.{Round};
 ghost use Rattle.splitting.specs.Steps.{relabel, relabel-walk};
-ghost use Rattle.ordering.specs.Order.{walked-bit, copy-bit, see, place, is-walked, entry, told, order-walk};
+ghost use Rattle.ordering.specs.Order.{entry-limit, copy-bit, see, place, is-walked, entry, told, order-walk};
 ghost use Rattle.ordering.specs.Needs.{FanOrder};
 ghost use Rattle.fanwalks.specs.declared.Behind.the-variants as B;
 use numbers::Halfedge;
-use numbers::NamedHalfedge;
 use numbers::Vertex;
 
 // The partner of a live half-edge, which is there.
@@ -22,10 +21,7 @@ fn partner_of(rows: &[i32], h: Halfedge, halfedges: usize) -> Halfedge
     requires { ⌜ Round halfedges (now rows) × Live halfedges (now rows) (halfedgeNumber h) ⌝ }
     ensures { λ r. ⌜ (halfedgeNumber r ≡ partner (now (rows .entry)) (halfedgeNumber h)) × (halfedgeNumber r < halfedges) ⌝ }
 {
-    match rows::halfedges::pair_of(rows, h, halfedges) {
-        NamedHalfedge::At(p) => p,
-        NamedHalfedge::Nothing => h,
-    }
+    rows::halfedges::pair_known(rows, h)
 }
 
 // One turn about the start of a live half-edge.
@@ -37,26 +33,29 @@ fn turn_of(rows: &[i32], h: Halfedge, halfedges: usize) -> Halfedge
 }
 
 // The bits of an entry of the work buffer, beside the half-edge that it names: that half-edge k was walked; and, with the last of a fan,
-// that the fan is to get a copy.
+// that the fan is to get a copy. What an entry names, with the copy bit, is below ENTRY; between that and the walked bit is a bit that
+// is never set, so that the compiler writes whole words.
 const WALKED: u32 = 2147483648;
 
-pub const COPY: usize = 1073741824;
+const ENTRY: u32 = 1073741824;
+
+pub const COPY: usize = 536870912;
 
 // Sets the walked bit of half-edge h.
 fn see(work: &mut [u32], h: usize)
     requires { ⌜ h < length (now work) ⌝ }
     ensures { λ _. ⌜ now (work .exit) ≡ see h (now (work .entry)) ⌝ }
 {
-    work[h] = work[h] % WALKED + WALKED;
+    work[h] = work[h] % ENTRY + WALKED;
 }
 
 // Puts x at place k of the order.
 fn place(work: &mut [u32], k: usize, x: usize)
-    requires { ⌜ (k < length (now work)) × (x < walked-bit) ⌝ }
+    requires { ⌜ (k < length (now work)) × (x < entry-limit) ⌝ }
     ensures { λ _. ⌜ now (work .exit) ≡ place k x (now (work .entry)) ⌝ }
 {
     let old = work[k];
-    work[k] = old / WALKED * WALKED + x as u32;
+    work[k] = old / ENTRY * ENTRY + x as u32;
 }
 
 // Whether the fan of h was walked.
@@ -73,7 +72,7 @@ pub fn entry_at(work: &[u32], k: usize) -> usize
     requires { ⌜ k < length (now work) ⌝ }
     ensures { λ r. ⌜ r ≡ entry (now (work .entry)) k ⌝ }
 {
-    (work[k] % WALKED) as usize
+    (work[k] % ENTRY) as usize
 }
 
 // The last half-edge of a fan, as it is put into the order.
@@ -111,10 +110,7 @@ pub fn order_fan(
     let mut k = steps;
     let mut left = halfedges;
     while left > 0 {
-        let NamedHalfedge::At(p) = rows::halfedges::pair_of(rows, c, halfedges) else {
-            return Behind::Unclosed;
-        };
-        c = p.next();
+        c = turn_of(rows, c, halfedges);
         let here = c.number();
         see(work, here);
         if here == home {

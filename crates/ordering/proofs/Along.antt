@@ -29,7 +29,7 @@ use Rattle.splitting.specs.Steps.{relabel-walk, noted, State, state, first-fan,
 use Rattle.splitting.proofs.Inv.{Done, flag-clear, end-once, end-only}
 use Rattle.splitting.proofs.Net.{T, row-of, same, inV}
 use Rattle.splitting.proofs.Split.{flag-at, mark-at, fan-live, flags-noted, mark-noted, marks-other, Ok, turns-same, live-here, v-in, visits-fit, step-ok, begin-ok}
-use Rattle.ordering.specs.Order.{walked-bit, copy-bit, is-walked, entry, order-walk, Order, order, order-fan, order-row, order-rows, Written, written, copy-named, copy-at, write-order}
+use Rattle.ordering.specs.Order.{walked-bit, entry-limit, copy-bit, is-walked, entry, order-walk, Order, order, order-fan, order-row, order-rows, Written, written, copy-named, copy-at, write-order}
 use Rattle.ordering.proofs.Steps.{step-flagged, step-unnamed, step-fan, order-walked, order-unwalked}
 use Rattle.ordering.proofs.Words.{bit}
 use Rattle.ordering.proofs.Walks.{Below, length-ordered, ordered-out, ordered-in, ordered-behind, ordered-beyond, ordered-all}
@@ -124,7 +124,7 @@ module _ {H N : ℕ} {rows : List ℤ} {positions work₀ visit₀ : List ℕ} (
       work-long = rw (A .ok .work-len) long
 
       entry-marked : (j : ℕ) → j < H → entry marked j ≡ entry (o .work) j
-      entry-marked j c = ap (λ x. x % walked-bit) (getD-set-other (o .work) (H + v) j 1 0 (omega arith))
+      entry-marked j c = ap (λ x. x % entry-limit) (getD-set-other (o .work) (H + v) j 1 0 (omega arith))
 
       abbrev s₀ : Written
       s₀ = written rows positions visit₀ 0

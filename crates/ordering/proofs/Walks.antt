@@ -10,7 +10,7 @@ use lib.ListN.{length, getD, drop, length-set}
 use lib.Seq.{drop-set-lt}
 use Rattle.turning.specs.Fan.{occ}
 use Rattle.turning.proofs.Occ.{occ-head, occ-tail, occ-out, occ-in}
-use Rattle.ordering.specs.Order.{walked-bit, copy-bit, see, place, entry, told, at-home, entry-of, order-walk}
+use Rattle.ordering.specs.Order.{walked-bit, entry-limit, copy-bit, see, place, entry, told, at-home, entry-of, order-walk}
 use Rattle.ordering.proofs.Words.{bit, see-bit, see-entry, see-other, place-bit, place-entry, place-other}
 
 -- ---- what is put into the order
@@ -28,7 +28,7 @@ entry-elsewhere first home c n = go (ℕ-discrete c home)
     go (yes p) = absurd (n p)
     go (no q) = refl
 
-pub told-small : (first : Bool) (c : ℕ) → c < copy-bit → told first c < walked-bit
+pub told-small : (first : Bool) (c : ℕ) → c < copy-bit → told first c < entry-limit
 told-small true c b = omega arith
 told-small false c b = omega arith
 
@@ -36,10 +36,10 @@ told-of : (first : Bool) (c : ℕ) → c < copy-bit → told first c % copy-bit 
 told-of true c b = omega arith
 told-of false c b = omega arith
 
-pub entry-small : (first : Bool) (home c : ℕ) → c < copy-bit → entry-of first home c < walked-bit
+pub entry-small : (first : Bool) (home c : ℕ) → c < copy-bit → entry-of first home c < entry-limit
 entry-small first home c b = go (ℕ-discrete c home)
   where
-    go : (d : Dec (c ≡ home)) → at-home first c d < walked-bit
+    go : (d : Dec (c ≡ home)) → at-home first c d < entry-limit
     go (yes p) = told-small first c b
     go (no q) = omega arith
 
@@ -67,7 +67,7 @@ module _ (first : Bool) (home : ℕ) where
 
   module _ (k c : ℕ) (work : List ℕ) (b : k < length work) (d : c < length work) (s : c < copy-bit) where
     b′ : k < length (see c work)
-    b′ = omega (arith, length-set work c (getD work c 0 % walked-bit + walked-bit))
+    b′ = omega (arith, length-set work c (getD work c 0 % entry-limit + walked-bit))
 
     pub one-bit : bit (put-one k c work) c ≡ 1
     one-bit = place-bit (see c work) k (entry-of first home c) c b′ (entry-small first home c s) ∙ see-bit work c d
@@ -79,7 +79,7 @@ module _ (first : Bool) (home : ℕ) where
     one-entry = place-entry (see c work) k (entry-of first home c) b′ (entry-small first home c s)
 
     pub one-entry-other : (j : ℕ) → j ≢ k → entry (put-one k c work) j ≡ entry work j
-    one-entry-other j q = ap (λ x. x % walked-bit) (place-other (see c work) k (entry-of first home c) j q) ∙ see-entry work c j d
+    one-entry-other j q = ap (λ x. x % entry-limit) (place-other (see c work) k (entry-of first home c) j q) ∙ see-entry work c j d
 
   -- ---- a whole walk
   pub length-ordered : (k : ℕ) (cs work : List ℕ) → length (order-walk first home k cs work) ≡ length work

@@ -1,7 +1,7 @@
 -- The steps of splitting, made with one walk of each fan. The first pass writes only the work buffer: it numbers the half-edges in the
 -- order of their visits. The second goes by that order, lists it, and splits where a later fan is complete.
 --
--- An entry of the work buffer below H says two things. Its top bit says of half-edge k that its fan was walked. Below that stands the
+-- An entry of the work buffer below H says two things. Its top bit says of half-edge k that its fan was walked. Below 2^30 stands the
 -- half-edge that is visited at place k of the order; one bit more is set with the last of a fan that is to get a copy. Behind these
 -- entries are the marks of the vertices.
 use mathlib.Core.Bool.{Bool, cond}
@@ -22,22 +22,25 @@ use Rattle.splitting.specs.Steps.{relabel-walk}
 abbrev pub walked-bit : ℕ
 walked-bit = 2147483648
 
+abbrev pub entry-limit : ℕ
+entry-limit = 1073741824
+
 abbrev pub copy-bit : ℕ
-copy-bit = 1073741824
+copy-bit = 536870912
 
 -- the walked bit of half-edge h set
 abbrev pub see : ℕ → List ℕ → List ℕ
-see h work = set work h (getD work h 0 % walked-bit + walked-bit)
+see h work = set work h (getD work h 0 % entry-limit + walked-bit)
 
 -- x put at place k of the order
 abbrev pub place : ℕ → ℕ → List ℕ → List ℕ
-place k x work = set work k (getD work k 0 / walked-bit * walked-bit + x)
+place k x work = set work k (getD work k 0 / entry-limit * entry-limit + x)
 
 abbrev pub is-walked : List ℕ → ℕ → Bool
 is-walked work h = leb walked-bit (getD work h 0)
 
 abbrev pub entry : List ℕ → ℕ → ℕ
-entry work k = getD work k 0 % walked-bit
+entry work k = getD work k 0 % entry-limit
 
 -- ---- the first pass
 -- the last of a fan, with the bit that says it is to get a copy; any other as it is

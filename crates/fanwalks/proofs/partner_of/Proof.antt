@@ -1,27 +1,21 @@
--- `fanwalks::partner_of` meets its contract: a live half-edge has its partner in use, so its pair names one.
-use mathlib.Core.Path.{sym, ap, _∙_}
+-- `fanwalks::partner_of` meets its contract: a live half-edge has a pair of 0 or more, and its partner is in use.
+use mathlib.Core.Path.{sym, ap}
+use native.Mathlib.Omega.{arith}
+use borrow.Author.Tests.{le-leb}
 use lib.IntN.{natAbs}
-use Rattle.numbers.specs.Numbers.{halfedgeNumber, halfedgeNamed}
-use Rattle.numbers.proofs.Names.{names-is, names-below, names-at, nothing-not-at}
-use Rattle.rows.specs.Halfedges.{pairOf}
-use borrow.Author.Needs.{needs}
+use Rattle.numbers.specs.Numbers.{halfedgeNumber}
+use Rattle.net.specs.Sound.{partner}
 use Rattle.fanwalks.proofs.partner_of.Statement.{statement}
 use Rattle.fanwalks.proofs.partner_of.Tie as tie
 
-pair-of-requires : tie.Need-pair-of-requires
-pair-of-requires c κs = search needs
-
-enum-known-p : tie.Need-enum-known-p
-enum-known-p c = search needs
-
-enum-told : tie.Need-enum-told
-enum-told c = search needs
+pair-known-requires : tie.Need-pair-known-requires
+pair-known-requires c κs = (
+  omega (arith, c .pre .1 .in-use, c .pre .0 .lent),
+  rw (c .pre .1 .paired) (le-leb 0 (partner (c .args .rows .now) (halfedgeNumber (c .args .h))) (omega arith)),
+)
 
 returns : tie.Need-returns
-returns c = let e = sym (c .before .before .before .pair-of .ensures) ∙ ap halfedgeNamed (c .before .p .given .1) in (sym (ap natAbs (names-is (pairOf (c .before .before .before .before .args .rows .now) (halfedgeNumber (c .before .before .before .before .args .h))) (c .before .before .before .before .args .halfedges) e)), names-below (pairOf (c .before .before .before .before .args .rows .now) (halfedgeNumber (c .before .before .before .before .args .h))) (c .before .before .before .before .args .halfedges) e)
-
-returns-2 : tie.Need-returns-2
-returns-2 c = nothing-not-at (sym (sym (c .before .before .pair-of .ensures) ∙ ap halfedgeNamed (c .enum-told .given .1)) ∙ names-at (pairOf (c .before .before .before .args .rows .now) (halfedgeNumber (c .before .before .before .args .h))) (c .before .before .before .args .halfedges) _ (c .before .before .before .pre .1 .paired) (c .before .before .before .pre .0 .partner-in (c .before .before .before .pre .1)))
+returns c = let e = sym (ap natAbs (c .pair-known .ensures)) in (e, rw e (c .before .pre .0 .partner-in (c .before .pre .1)))
 
 pub partner-of-spec : {M : Type 1} → statement M
-partner-of-spec = tie.close (tie.spec pair-of-requires enum-known-p enum-told returns returns-2)
+partner-of-spec = tie.close (tie.spec pair-known-requires returns)
