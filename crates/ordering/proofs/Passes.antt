@@ -9,7 +9,7 @@ use native.Mathlib.Omega.{arith}
 use borrow.Author.Tests.{leb-true, leb-false, le-leb, lt-leb}
 use lib.Dec.{leb}
 use lib.IntN.{ℤ}
-use lib.ListN.{length, getD, length-set}
+use lib.ListN.{length, getD, set, length-set}
 use Rattle.laws.proofs.Tests.{by-test}
 use Rattle.numbers.specs.Numbers.{Named, at, nothing, names}
 use Rattle.numbers.proofs.Names.{names-is}
@@ -27,7 +27,7 @@ use Rattle.splitting.proofs.Inv.{flag-clear}
 use Rattle.splitting.proofs.Net.{T, same, inV, round-of, live-there, round-kept}
 use Rattle.splitting.proofs.Rows.{length-relabel, relabel-pair}
 use Rattle.splitting.proofs.Split.{live-here}
-use Rattle.ordering.specs.Order.{copy-bit, is-walked, entry, order, order-row, order-rows, Written, written, copy-named, copy-at, listed, write-entry, write-order}
+use Rattle.ordering.specs.Order.{copy-bit, is-walked, entry, order, order-row, order-rows, Written, written, copy-named, copy-at, listed, write-entry, write-order, list-order}
 use Rattle.ordering.specs.Needs.{FanOrder, RowOrder, EntryNeeds, OrderNeeds}
 use Rattle.ordering.proofs.Along.{Along, along, start-kept, unwalked, fits}
 
@@ -140,6 +140,28 @@ module _ (H N : ℕ) where
   unfolding write-entry copy-at
   entry-named k x s l z e = sym (rw (le-leb copy-bit x l, e))
 
+  -- where nothing is added, the places are listed and that is all
+  entry-alone : (k x : ℕ) (s : Written) → write-entry H N k x s .added ≡ s .added → write-entry H N k x s ≡ listed k (x % copy-bit) s
+  entry-alone k x s e =
+      by-test (leb copy-bit x)
+      (λ t. go (leb-true copy-bit x t) (names (startOf (s .halfedges) (x % copy-bit)) N) refl)
+      (λ t. sym (entry-listed k x s (let u : x < copy-bit = leb-false copy-bit x t in u)))
+    where
+      go : copy-bit ≤ x → (z : Named) → names (startOf (s .halfedges) (x % copy-bit)) N ≡ z → write-entry H N k x s ≡ listed k (x % copy-bit) s
+      go l nothing q = sym (entry-named k x s l nothing q)
+      go l (at v) q =
+          let one : write-entry H N k x s .added ≡ s .added + 1 = ap (λ (t : Written). t .added) (sym (entry-named k x s l (at v) q)) in
+          absurd (omega (arith, one, e))
+
+  pub order-alone : (work : List ℕ) (k : ℕ) (s : Written) → write-order H N work k s .added ≡ s .added
+      → write-order H N work k s ≡ written (s .halfedges) (s .positions) (list-order work k (s .visit)) (s .added)
+  unfolding write-order list-order
+  order-alone work zero s e = refl
+  order-alone work (suc k) s e =
+      let q : write-order H N work k s .added ≡ s .added =
+      omega (arith, added-by work s 0 k (omega arith), entry-adds k (entry work k) (write-order H N work k s), e) in
+      entry-alone k (entry work k) (write-order H N work k s) (e ∙ sym q) ∙ ap (listed k (entry work k % copy-bit)) (order-alone work k s q)
+
   module _ (k x : ℕ) (s : Written) (E : EntryNeeds H N (s .halfedges) (s .positions) (s .visit) k x (s .added)) where
     at-list : Held s (listed k (x % copy-bit) s)
     at-list = record { pairs = λ h. refl; rows-len = refl; positions-len = refl; visit-len = length-set (s .visit) k (x % copy-bit) }
@@ -166,6 +188,11 @@ held-on r s t a b = record {
   positions-len = b .positions-len ∙ a .positions-len;
   visit-len = b .visit-len ∙ a .visit-len;
 }
+
+-- one place more listed
+pub list-on : (work : List ℕ) (k : ℕ) (visit : List ℕ) → list-order work (k + 1) visit ≡ set (list-order work k visit) k (entry work k % copy-bit)
+unfolding list-order
+list-on work k visit = rw (add-one k)
 
 -- ---- the second pass, before place k
 pub record Writing (H N : ℕ) (rows₀ : List ℤ) (positions₀ work visit₀ : List ℕ) (steps : ℕ) (rows : List ℤ) (positions visit : List ℕ) (k added : ℕ) : Type 0 where

@@ -120,3 +120,8 @@ write-entry H N k x s = cond (leb copy-bit x) (copy-at H N (x % copy-bit) (liste
 unfoldable pub write-order : ℕ → ℕ → List ℕ → ℕ → Written → Written
 write-order H N work zero s = s
 write-order H N work (suc k) s = write-entry H N k (entry work k) (write-order H N work k s)
+
+-- what the second pass lists, by itself: the places below k, rising
+unfoldable pub list-order : List ℕ → ℕ → List ℕ → List ℕ
+list-order work zero visit = visit
+list-order work (suc k) visit = set (list-order work k visit) k (entry work k % copy-bit)

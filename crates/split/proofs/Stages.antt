@@ -19,9 +19,10 @@ use Rattle.splitting.specs.Steps.{Tallied, tallied, unclosed, count, State, sta
 use Rattle.splitting.specs.Split.{Outcome, outcome, done-with, all-split, by-room, by-count, split-sound}
 use Rattle.splitting.proofs.Net.{round-of}
 use Rattle.splitting.proofs.Told.{by-pass}
-use Rattle.ordering.specs.Order.{order, order-rows, Written, written, write-order}
+use Rattle.ordering.specs.Order.{order, order-rows, Written, written, write-order, list-order}
 use Rattle.ordering.specs.Needs.{OrderNeeds}
 use Rattle.ordering.proofs.Along.{Along, along, visits-few}
+use Rattle.ordering.proofs.Passes.{order-alone}
 
 -- an outcome with the work buffer that is said
 pub with-work : (said : Said) (h : List ℤ) (p w w′ v : List ℕ) (o : Outcome) → w ≡ w′ → outcome said h p w′ v ≡ o → outcome said h p w v ≡ o
@@ -110,3 +111,11 @@ module _ {H N : ℕ} {rows : List ℤ} (positions work visit : List ℕ) (S : So
         let q = e ∙ goes .wrote in
         (λ j. outcome (done-with (q j .added) (goes .steps-same j)) (q j .halfedges) (q j .positions) work (q j .visit))
         ∙ written-here H N rows positions work visit clear copies l end refl ∙ ap (by-room H N rows positions work visit) (goes .added-same) ∙ room-counted
+
+    -- where there are no copies, the list is all
+    pub all-listed : copies ≡ 0 → copies ≤ vertex-capacity-over positions - N → (visit′ : List ℕ) → visit′ ≡ list-order work′ steps visit
+        → outcome (done-with 0 steps) rows positions work visit′ ≡ split-sound H N rows positions work visit
+    all-listed z l visit′ e =
+        all-written l rows positions visit′ 0
+        (ap (λ v. written rows positions v 0) e
+        ∙ sym (order-alone H N work′ steps (written rows positions visit 0) (ap (λ (t : Written). t .added) (goes .wrote) ∙ sym (goes .added-same) ∙ z)))

@@ -12,7 +12,7 @@ ghost use Rattle.net.specs.Sound.{turn};
 ghost use Rattle.turning.specs.Walk.{walk};
 ghost use Rattle.splitting.specs.Needs.{SoundRows};
 ghost use Rattle.splitting.specs.Split.{outcome, split-sound, splitPinched};
-ghost use Rattle.ordering.specs.Order.{order, order-fan, order-row, order-rows, written, write-entry, write-order};
+ghost use Rattle.ordering.specs.Order.{order, order-fan, order-row, order-rows, written, write-entry, write-order, list-order};
 ghost use Rattle.ordering.specs.Needs.{FanOrder, RowOrder, EntryNeeds, OrderNeeds};
 ghost use Rattle.split.specs.Answer.{Gives, splitSaid};
 use fanwalks::Behind;
@@ -145,6 +145,18 @@ fn write_order(
     added
 }
 
+// The order listed by itself: what is written where nothing is copied.
+fn list_order(work: &[u32], visit: &mut [u32], steps: usize)
+    requires { ⌜ (steps ≤ length (now work)) × (steps ≤ length (now visit)) ⌝ }
+    ensures { λ _. ⌜ now (visit .exit) ≡ list-order (now (work .entry)) steps (now (visit .entry)) ⌝ }
+{
+    let mut k = 0;
+    while k < steps {
+        visit[k] = (fanwalks::entry_at(work, k) % COPY) as u32;
+        k += 1;
+    }
+}
+
 // What split_pinched_verts answers: vertices added and half-edges visited; or a shape that does not fit, a buffer too short, the
 // least row that is not in order, a fan that does not close, no room for a copy.
 pub enum Split {
@@ -156,8 +168,8 @@ pub enum Split {
     NoRoom,
 }
 
-// Over a cleared work buffer: the fans are put into the order, and where the copies find room all is written; else the free vertex rows
-// are zeroed. That a fan does not close cannot come here: every fan of a sound net closes.
+// Over a cleared work buffer: the fans are put into the order, and where the copies find room all is written, the list alone where there
+// are none; else the free vertex rows are zeroed. That a fan does not close cannot come here: every fan of a sound net closes.
 fn split_cleared(
     rows: &mut [i32],
     positions: &mut [u64],
@@ -179,6 +191,10 @@ fn split_cleared(
     if copies > capacity - vertices {
         rows::triples::zero(positions, vertices, capacity);
         return Split::NoRoom;
+    }
+    if copies == 0 {
+        list_order(work, visit, steps);
+        return Split::Done(0, steps);
     }
     let added = write_order(rows, positions, work, visit, halfedges, vertices, steps);
     Split::Done(added, steps)
