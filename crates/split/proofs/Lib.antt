@@ -1,4 +1,3 @@
-pub mod Ways
 pub mod Stages
 pub mod Entry
 pub mod Agree

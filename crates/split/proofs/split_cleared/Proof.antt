@@ -4,7 +4,7 @@ use native.Mathlib.Omega.{arith}
 use Rattle.ordering.specs.Order.{order, order-rows}
 use Rattle.rows.specs.Triples.{zero-triples}
 use Rattle.net.proofs.Shape.{capacity-lent}
-use Rattle.split.proofs.Ways.{never-unclosed, given}
+use Rattle.passes.proofs.Ways.{never-unclosed, given}
 use Rattle.split.proofs.Stages.{reads-zero, goes, full, needs-met, all-written, all-listed}
 use borrow.Author.Needs.{needs}
 use Rattle.split.proofs.split_cleared.Statement.{statement}

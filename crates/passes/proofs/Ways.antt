@@ -14,9 +14,9 @@ use Rattle.fanwalks.specs.declared.Behind.the-variants as B
 use Rattle.ordering.specs.Order.{is-walked, order-walk, Order, order, is-first, order-fan, order-row}
 use Rattle.ordering.specs.Needs.{FanOrder}
 use Rattle.ordering.proofs.Steps.{order-walked, order-unwalked}
-use Rattle.split.specs.declared.Ordered.{Ordered}
-use Rattle.split.specs.declared.Ordered.the-variants as O
-use Rattle.split.specs.Answer.{Gives}
+use Rattle.passes.specs.declared.Ordered.{Ordered}
+use Rattle.passes.specs.declared.Ordered.the-variants as O
+use Rattle.passes.specs.Given.{Gives}
 
 -- ---- a fan closes
 pub behind-is : {m n : ℕ} → B.At m ≡ B.At n → m ≡ n

@@ -1,12 +1,12 @@
--- `split::write_order` meets its contract: place by place.
+-- `passes::write_order` meets its contract: place by place.
 use mathlib.Core.Path.{sym, ap, _∙_, subst}
 use Prim.Native.Nat.{_-_}
 use native.Mathlib.Omega.{arith}
 use Rattle.ordering.specs.Order.{written, write-entry}
 use Rattle.ordering.specs.Needs.{EntryNeeds}
 use Rattle.ordering.proofs.Passes.{Writing, writing-begins, writing-needs, writing-on, writing-done}
-use Rattle.split.proofs.write_order.Statement.{statement}
-use Rattle.split.proofs.write_order.Tie as tie
+use Rattle.passes.proofs.write_order.Statement.{statement}
+use Rattle.passes.proofs.write_order.Tie as tie
 
 abbrev Inv-loop : tie.InvT-loop
 Inv-loop rows₀ positions₀ work visit₀ halfedges vertices steps added₀ k₀ rows positions visit added k = Writing halfedges vertices rows₀ positions₀ work visit₀ steps rows positions visit k added

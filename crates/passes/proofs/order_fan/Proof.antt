@@ -1,12 +1,12 @@
--- `split::order_fan` meets its contract: the mark tells a first fan from a later one, and every fan closes.
+-- `passes::order_fan` meets its contract: the mark tells a first fan from a later one, and every fan closes.
 use mathlib.Core.Path.{sym, ap, _∙_}
 use mathlib.Core.Bool.{cond}
 use Prim.Native.Nat.{_+_}
 use Rattle.numbers.specs.Numbers.{halfedgeNumber, vertexNumber}
-use Rattle.split.proofs.Ways.{not-unclosed, order-kept, fan-given}
+use Rattle.passes.proofs.Ways.{not-unclosed, order-kept, fan-given}
 use borrow.Author.Needs.{needs}
-use Rattle.split.proofs.order_fan.Statement.{statement}
-use Rattle.split.proofs.order_fan.Tie as tie
+use Rattle.passes.proofs.order_fan.Statement.{statement}
+use Rattle.passes.proofs.order_fan.Tie as tie
 
 mark-vertex-requires : tie.Need-mark-vertex-requires
 mark-vertex-requires c κs = search needs

@@ -1,4 +1,4 @@
--- `split::write_entry` meets its contract: listed only, or the fan split too.
+-- `passes::write_entry` meets its contract: listed only, or the fan split too.
 use mathlib.Core.Path.{sym, ap, _∙_, subst}
 use Prim.Native.Nat.{_+_, _%_, _≤_}
 use native.Mathlib.Omega.{arith}
@@ -13,8 +13,8 @@ use Rattle.ordering.specs.Order.{copy-bit, written}
 use Rattle.net.proofs.Shape.{capacity-lent, capacity-most}
 use Rattle.ordering.proofs.Passes.{entry-listed, entry-named}
 use borrow.Author.Needs.{needs}
-use Rattle.split.proofs.write_entry.Statement.{statement}
-use Rattle.split.proofs.write_entry.Tie as tie
+use Rattle.passes.proofs.write_entry.Statement.{statement}
+use Rattle.passes.proofs.write_entry.Tie as tie
 
 cast-visit : tie.Need-cast-visit
 cast-visit c = search needs

@@ -1,4 +1,4 @@
--- `split::order_rows` meets its contract: half-edge by half-edge.
+-- `passes::order_rows` meets its contract: half-edge by half-edge.
 use mathlib.Core.Path.{sym, ap, _∙_, subst}
 use Prim.Native.Nat.{_-_}
 use native.Mathlib.Omega.{arith}
@@ -6,12 +6,12 @@ use Rattle.numbers.specs.Numbers.{halfedgeNumber}
 use Rattle.ordering.specs.Order.{Order, order, order-row}
 use Rattle.ordering.specs.Needs.{RowOrder}
 use Rattle.ordering.proofs.Passes.{Ordered, ordered-begins, ordered-length, ordered-needs, ordered-on, ordered-done}
-use Rattle.split.specs.declared.Ordered.the-variants as O
-use Rattle.split.proofs.Ways.{never-unclosed, given}
+use Rattle.passes.specs.declared.Ordered.the-variants as O
+use Rattle.passes.proofs.Ways.{never-unclosed, given}
 use borrow.Author.Needs.{needs}
 use borrow.Author.Needs.{needs}
-use Rattle.split.proofs.order_rows.Statement.{statement}
-use Rattle.split.proofs.order_rows.Tie as tie
+use Rattle.passes.proofs.order_rows.Statement.{statement}
+use Rattle.passes.proofs.order_rows.Tie as tie
 
 abbrev Inv-loop : tie.InvT-loop
 Inv-loop rows work₀ halfedges vertices added₀ steps₀ i₀ work added steps i = Ordered halfedges vertices rows work₀ work i added steps

@@ -1,4 +1,4 @@
--- `split::list_order` meets its contract: what is listed is the order up to where the loop stands.
+-- `passes::list_order` meets its contract: what is listed is the order up to where the loop stands.
 use mathlib.Core.Path.{_≡_, refl, sym, ap, _∙_}
 use Prim.Native.Nat.{_-_, _%_, _≤_}
 use native.Mathlib.Omega.{arith}
@@ -6,8 +6,8 @@ use lib.ListN.{length, set, length-set}
 use Rattle.ordering.specs.Order.{copy-bit, list-order}
 use Rattle.ordering.proofs.Passes.{list-on}
 use borrow.Author.Needs.{needs}
-use Rattle.split.proofs.list_order.Statement.{statement}
-use Rattle.split.proofs.list_order.Tie as tie
+use Rattle.passes.proofs.list_order.Statement.{statement}
+use Rattle.passes.proofs.list_order.Tie as tie
 
 abbrev Inv-loop : tie.InvT-loop
 Inv-loop work visit₀ steps k₀ visit k = (k ≤ steps) × (visit ≡ list-order work k visit₀) × (length visit ≡ length visit₀)

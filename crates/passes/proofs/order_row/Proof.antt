@@ -1,13 +1,13 @@
--- `split::order_row` meets its contract: walked before, a fan, or dead.
+-- `passes::order_row` meets its contract: walked before, a fan, or dead.
 use mathlib.Core.Path.{sym, ap, _∙_}
 use native.Mathlib.Omega.{arith}
 use Rattle.numbers.specs.Numbers.{halfedgeNumber, vertexNamed}
 use Rattle.numbers.proofs.Names.{names-below}
 use Rattle.rows.specs.Halfedges.{startOf}
-use Rattle.split.proofs.Ways.{row-walked, row-unnamed, row-fan}
+use Rattle.passes.proofs.Ways.{row-walked, row-unnamed, row-fan}
 use borrow.Author.Needs.{needs}
-use Rattle.split.proofs.order_row.Statement.{statement}
-use Rattle.split.proofs.order_row.Tie as tie
+use Rattle.passes.proofs.order_row.Statement.{statement}
+use Rattle.passes.proofs.order_row.Tie as tie
 
 is-walked-requires : tie.Need-is-walked-requires
 is-walked-requires c κs = omega (arith, c .before .before .pre .in-use, c .before .before .pre .work-long)
