@@ -536,11 +536,12 @@ const CLOSING: &str = "
 ![time against size](speed.svg)
 
 The Rust has no soundness check: check_net is what it does not do. So check_net is put beside the Rust's split, which reads the same rows \
-unchecked. The check goes by triangle and reads each row once and its partner once; the Rust's split walks every fan.
+unchecked. The check goes by triangle and reads each row once and two numbers of its partner; where a row does not pass, a second pass looks for the least \
+one that is not in order. The Rust's split walks every fan.
 
 Our split_pinched_verts begins with that check. Then it walks each fan once, writes the order of the visits into the work buffer and counts the copies, so that a \
-refusal leaves the net as it was. Where the copies find room it goes over that order from front to end: it writes the visit list, and splits a later fan when it \
-comes to its last half-edge. It clears the work buffer before and after. The Rust does the walk alone. What is neither soundness nor clearing is that walk and the pass over the order. The walk is bound by one read after \
+refusal leaves the net as it was. Where nothing is to be copied, as here, it lists that order and is done. Where the copies find room it goes over the order from front to end: \
+it writes the visit list, and splits a later fan when it comes to its last half-edge. It clears the work buffer before and after. The Rust does the walk alone. What is neither soundness nor clearing is that walk and the pass over the order. The walk is bound by one read after \
 the other (the pair, then next of it), as the Rust's is; what it has more is the entry of each half-edge, four bytes where the Rust has one.
 
 orbit_owners is for nets that need not be sound, so it has no such check; it clears its work buffer before and after. The Rust's is the build with the feature \
