@@ -28,28 +28,28 @@ named-is z limit e = go (names z limit) refl e
         (i ∙ ap pos (sym j), rw j (names-below z limit q))
     go nothing q t = not-both false t refl
 
-is-named-at : (z : ℤ) (limit : ℕ) → z ≡ pos (natAbs z) → natAbs z < limit → is-named (names z limit) ≡ true
+pub is-named-at : (z : ℤ) (limit : ℕ) → z ≡ pos (natAbs z) → natAbs z < limit → is-named (names z limit) ≡ true
 is-named-at z limit e l = rw (names-at z limit (natAbs z) e l)
 
 module _ (rows : List ℤ) where
-  empty-yes : (h : ℕ) → is-empty rows h ≡ true → Empty rows h
+  pub empty-yes : (h : ℕ) → is-empty rows h ≡ true → Empty rows h
   empty-yes h e =
       let s : (eqZ (startOf rows h) none ≡ true) × (eqZ (endOf rows h) none ≡ true) × (eqZ (pairOf rows h) none ≡ true) = and3 _ _ _ e in
       record { start-none = eqZ-true _ _ (s .0); end-none = eqZ-true _ _ (s .1); pair-none = eqZ-true _ _ (s .2) }
 
-  is-empty-yes : (h : ℕ) → Empty rows h → is-empty rows h ≡ true
+  pub is-empty-yes : (h : ℕ) → Empty rows h → is-empty rows h ≡ true
   is-empty-yes h e = rw (e .start-none, e .end-none, e .pair-none)
 
-  paired-yes : (h : ℕ) → is-paired rows h ≡ true → Paired rows h
+  pub paired-yes : (h : ℕ) → is-paired rows h ≡ true → Paired rows h
   paired-yes h e = let q = from-zero (pairOf rows h) e in q ∙ ap pos (sym (ap natAbs q))
 
-  is-paired-yes : (h : ℕ) → Paired rows h → is-paired rows h ≡ true
+  pub is-paired-yes : (h : ℕ) → Paired rows h → is-paired rows h ≡ true
   is-paired-yes h e = rw e (le-leb 0 (partner rows h) (omega arith))
 
   pub apart-yes : (g h : ℕ) → differ rows g h ≡ true → startOf rows g ≡ startOf rows h → ⊥
   apart-yes g h e = eqZ-false _ _ (not-true (eqZ (startOf rows g) (startOf rows h)) e)
 
-  is-apart-yes : (g h : ℕ) → (startOf rows g ≡ startOf rows h → ⊥) → differ rows g h ≡ true
+  pub is-apart-yes : (g h : ℕ) → (startOf rows g ≡ startOf rows h → ⊥) → differ rows g h ≡ true
   is-apart-yes g h n = rw (eqZ-no (startOf rows g) (startOf rows h) n)
 
 module _ (H N : ℕ) (rows : List ℤ) (h : ℕ) where
@@ -59,12 +59,12 @@ module _ (H N : ℕ) (rows : List ℤ) (h : ℕ) where
   abbrev third : ℕ
   third = next (next h)
 
-  dead-yes : empty3 rows h second third ≡ true → DeadRow rows h
+  pub dead-yes : empty3 rows h second third ≡ true → DeadRow rows h
   dead-yes e =
       let s = and3 (is-empty rows h) (is-empty rows second) (is-empty rows third) e in
       record { this = empty-yes rows h (s .0); second = empty-yes rows second (s .1); third = empty-yes rows third (s .2) }
 
-  is-dead-yes : DeadRow rows h → empty3 rows h second third ≡ true
+  pub is-dead-yes : DeadRow rows h → empty3 rows h second third ≡ true
   is-dead-yes d = both3 (is-empty-yes rows h (d .this)) (is-empty-yes rows second (d .second)) (is-empty-yes rows third (d .third))
 
   mirror-yes : mirrored-by rows h rows h (names (pairOf rows h) H) ≡ true →
