@@ -1,2 +1,3 @@
 pub mod Explain
 pub mod Clauses
+pub mod Answer

@@ -15,6 +15,8 @@ use numbers::Halfedge;
 use numbers::NamedHalfedge;
 use rows::corners;
 
+pub mod answer;
+
 // What explain_row answers: the clause that the row breaks first, with the other row where there is one, or a refusal.
 pub enum ExplainRow {
     InOrder,
