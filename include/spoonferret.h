@@ -135,6 +135,13 @@ typedef struct {
     size_t row;
 } spoonferret_row_answer;
 
+/* clause: the first clause of "in order" that the row breaks, 0 for none; other: the other row that this concerns. */
+typedef struct {
+    uint32_t number;
+    uint32_t clause;
+    size_t other;
+} spoonferret_explain_answer;
+
 /* added: vertices copied; steps: half-edges visited; row: the least row not in order. */
 typedef struct {
     uint32_t number;
@@ -213,6 +220,19 @@ spoonferret_row_answer spoonferret_check_net(spoonferret_used used, const int32_
                                              const uint64_t *positions, size_t positions_length, const uint64_t *normals,
                                              size_t normals_length, const int32_t *references, size_t references_length,
                                              const uint64_t *properties, size_t properties_length);
+
+/* Why a row is not in order: the first clause that it breaks. Reads only; the net need not be sound.
+   0: clause says which, and other the other row that it concerns (0 where there is none):
+     0 the row is in order                                   5 its end is not the start of its next; other: that next
+     1 its pair is not in 0..used.halfedges                  6 its partner's ends are not its own, exchanged; other: the partner
+     2 its partner's pair is another row; other: the partner 7 two of its triangle's three starts agree
+     3 its start or its end is not in 0..used.vertices       8 it is empty and another row of its triangle is not; other: that row
+     4 another row of its triangle has no pair; other: that row
+   1: shape. 4: row is not in 0..used.halfedges. */
+spoonferret_explain_answer spoonferret_explain_row(spoonferret_used used, const int32_t *halfedges, size_t halfedges_length,
+                                                   const uint64_t *positions, size_t positions_length, const uint64_t *normals,
+                                                   size_t normals_length, const int32_t *references, size_t references_length,
+                                                   const uint64_t *properties, size_t properties_length, int32_t row);
 
 /* Makes two half-edges each other's partner: writes two pair fields and nothing else. The same number twice pairs a row with
    itself. The net need not be sound.

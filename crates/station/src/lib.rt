@@ -16,8 +16,11 @@ ghost use Rattle.dedupe.specs.DedupeEdge.{dedupeEdge};
 ghost use Rattle.rounds.specs.DedupeEdges.{dedupeEdges};
 ghost use Rattle.cleanup.specs.Cleanup.{cleanupTopology};
 ghost use Rattle.collapse.specs.CollapseEdge.{collapseEdge, tolerance};
+ghost use Rattle.explain.specs.Explain.{explainRow};
+ghost use Rattle.explain.specs.Answer.{explain-told};
 ghost use Rattle.told.specs.Told.{told, next-told, tri-told, length-told, row-told, counts-of, vector-of, eligible-of};
 ghost use Rattle.station.specs.Left.{and-left, split-left, owners-left, loop-left, edge-left, edges-left, cleanup-left, collapse-left};
+use explain::answer::ExplainAnswer;
 use repairtold::CleanupTopologyAnswer;
 use repairtold::CollapseEdgeAnswer;
 use repairtold::DedupeEdgeAnswer;
@@ -86,6 +89,29 @@ pub extern "C" fn spoonferret_check_net(
         normals,
         references,
         properties,
+    ))
+}
+
+#[no_mangle]
+pub extern "C" fn spoonferret_explain_row(
+    used: Used,
+    halfedges: &[i32],
+    positions: &[u64],
+    normals: &[u64],
+    references: &[i32],
+    properties: &[u64],
+    row: i32,
+) -> ExplainAnswer
+    ensures { λ r. ⌜ r ≡ explain-told (explainRow (counts-of used) (net (now (halfedges .entry)) (now (positions .entry)) (now (normals .entry)) (now (references .entry)) (now (properties .entry))) row) ⌝ }
+{
+    explain::answer::of_explain(explain::explain_row(
+        told::counts_of(used),
+        halfedges,
+        positions,
+        normals,
+        references,
+        properties,
+        row,
     ))
 }
 

@@ -37,6 +37,7 @@
 mod lending;
 pub mod edge_op;
 mod layout;
+mod clause;
 mod net;
 mod net_mut;
 pub mod raw;
@@ -44,6 +45,7 @@ mod refusal;
 mod rows;
 mod workspace;
 
+pub use clause::Clause;
 #[doc(hidden)]
 pub use layout::fits;
 pub use layout::{HalfedgeRow, Layout, Own};

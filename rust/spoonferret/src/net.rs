@@ -3,7 +3,7 @@
 use crate::lending::Shared;
 use crate::net_mut;
 use crate::workspace::with_kept;
-use crate::{Halfedge, NetMut, Own, Reference, Refusal, Vec3};
+use crate::{Clause, Halfedge, NetMut, Own, Reference, Refusal, Vec3};
 
 /// A half-edge net: every row that its vectors hold is in use. Half-edges 3t, 3t+1 and 3t+2 are triangle t; normals and references
 /// are empty or have a row for each triangle; properties have `num_prop` numbers a row.
@@ -63,6 +63,32 @@ impl Net {
     /// `Shape`; `Unsound` with the least row that is not in order.
     pub fn check(&self) -> Result<(), Refusal> {
         net_mut::check(&self.shared())
+    }
+
+    /// Why a row is not in order: the first clause that it breaks, of the row that `Unsound` names or of any other. The net need not be sound.
+    ///
+    /// ```
+    /// use spoonferret::{Clause, Halfedge, Net, Refusal, Vec3};
+    /// let rows = [[0, 1, 3], [1, 2, 5], [2, 0, 4], [1, 0, 0], [0, 1, 2], [2, 1, 1]];
+    /// let net = Net {
+    ///     halfedges: rows.iter().map(|r| Halfedge::new(r[0], r[1], r[2], -1)).collect(),
+    ///     positions: vec![Vec3::default(); 3],
+    ///     ..Net::default()
+    /// };
+    /// assert_eq!(net.check(), Err(Refusal::Unsound { row: 2 }));
+    /// let clause = net.explain_row(2)?;
+    /// assert_eq!(clause, Clause::NotMirrored { partner: 4 });
+    /// assert_eq!(clause.to_string(), "its partner, row 4, does not run the opposite way between the same two vertices");
+    /// assert_eq!(net.explain_row(0), Ok(Clause::InOrder));
+    /// assert_eq!(net.explain_row(6), Err(Refusal::Number));
+    /// # Ok::<(), Refusal>(())
+    /// ```
+    ///
+    /// # Errors
+    ///
+    /// `Shape`; `Number` where the row is not in use.
+    pub fn explain_row(&self, row: i32) -> Result<Clause, Refusal> {
+        net_mut::explain_row(&self.shared(), row)
     }
 
     /// Makes two half-edges each other's partner. The net need not be sound, and nothing but the two pair fields is written.

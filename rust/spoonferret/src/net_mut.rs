@@ -2,7 +2,7 @@
 
 use crate::lending::{self, Arrays, InUse, Room, Shared, MOST_TRIANGLES, MOST_VERTICES};
 use crate::raw::Used;
-use crate::{Eligible, Layout, Refusal, Workspace};
+use crate::{Clause, Eligible, Layout, Refusal, Workspace};
 use std::marker::PhantomData;
 
 /// A half-edge net over vectors that the caller keeps: every row that they hold is in use. Half-edges 3t, 3t+1 and 3t+2 are triangle t; normals and references
@@ -271,6 +271,15 @@ impl<L: Layout> NetMut<'_, L> {
         check(&self.shared())
     }
 
+    /// Why a row is not in order, as [`Net::explain_row`](crate::Net::explain_row) says it.
+    ///
+    /// # Errors
+    ///
+    /// `Shape`; `Number` where the row is not in use.
+    pub fn explain_row(&self, row: i32) -> Result<Clause, Refusal> {
+        explain_row(&self.shared(), row)
+    }
+
     /// Makes two half-edges each other's partner, as [`Net::pair_up`](crate::Net::pair_up) does.
     ///
     /// # Errors
@@ -436,6 +445,12 @@ impl<L: Layout> NetMut<'_, L> {
 pub(crate) fn check<L: Layout>(net: &Shared<'_, L>) -> Result<(), Refusal> {
     let told = call!(spoonferret_check_net, net.arrays()?);
     Refusal::unless_sound_and_done(told.number, told.row, ())
+}
+
+/// explain_row, of rows that are borrowed for reading.
+pub(crate) fn explain_row<L: Layout>(net: &Shared<'_, L>, row: i32) -> Result<Clause, Refusal> {
+    let told = call!(spoonferret_explain_row, net.arrays()?, row);
+    Refusal::unless_done(told.number, Clause::of(told.clause, told.other))
 }
 
 /// orbit_owners, of rows that are borrowed for reading.

@@ -169,6 +169,17 @@ pub struct CollapseEdgeAnswer {
     pub limit: u64,
 }
 
+/// `spoonferret_explain_answer`
+#[repr(C)]
+pub struct ExplainAnswer {
+    /// the answer
+    pub number: u32,
+    /// the first clause that the row breaks, 0 for none
+    pub clause: u32,
+    /// the other row that this concerns
+    pub other: usize,
+}
+
 extern "C" {
     /// `spoonferret_next_halfedge`
     pub fn spoonferret_next_halfedge(h: i32) -> NextAnswer;
@@ -200,6 +211,22 @@ extern "C" {
         properties: *const u64,
         properties_length: usize,
     ) -> RowAnswer;
+
+    /// `spoonferret_explain_row`
+    pub fn spoonferret_explain_row(
+        used: Used,
+        halfedges: *const i32,
+        halfedges_length: usize,
+        positions: *const u64,
+        positions_length: usize,
+        normals: *const u64,
+        normals_length: usize,
+        references: *const i32,
+        references_length: usize,
+        properties: *const u64,
+        properties_length: usize,
+        row: i32,
+    ) -> ExplainAnswer;
 
     /// `spoonferret_pair_up`
     pub fn spoonferret_pair_up(
