@@ -42,7 +42,7 @@ const ENTRY: u32 = 1073741824;
 pub const COPY: usize = 536870912;
 
 // Sets the walked bit of half-edge h.
-fn see(work: &mut [u32], h: usize)
+pub fn see(work: &mut [u32], h: usize)
     requires { ⌜ h < length (now work) ⌝ }
     ensures { λ _. ⌜ now (work .exit) ≡ see h (now (work .entry)) ⌝ }
 {
@@ -50,7 +50,7 @@ fn see(work: &mut [u32], h: usize)
 }
 
 // Puts x at place k of the order.
-fn place(work: &mut [u32], k: usize, x: usize)
+pub fn place(work: &mut [u32], k: usize, x: usize)
     requires { ⌜ (k < length (now work)) × (x < entry-limit) ⌝ }
     ensures { λ _. ⌜ now (work .exit) ≡ place k x (now (work .entry)) ⌝ }
 {

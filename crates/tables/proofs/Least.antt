@@ -18,7 +18,7 @@ use Rattle.numbers.specs.Numbers.{Named, at, nothing, names, is-named}
 use Rattle.numbers.proofs.Names.{names-is, names-below}
 use Rattle.rows.specs.Halfedges.{endOf}
 use Rattle.searches.specs.Duplicates.{ends-alike, is-duplicate, is-in}
-use Rattle.ordering.specs.Order.{walked-bit, entry}
+use Rattle.ordering.specs.Order.{entry-limit, entry}
 use Rattle.duplicates.specs.Scan.{picked}
 use Rattle.tables.specs.Table.{lesser, is-over, is-over-at}
 
@@ -26,10 +26,10 @@ neither : (a b : Bool) → a || b ≡ false → (a ≡ false) × (b ≡ false)
 neither true b e = not-both true refl e
 neither false b e = (refl, e)
 
-pub entry-small : (work : List ℕ) (k : ℕ) → entry work k < walked-bit
+pub entry-small : (work : List ℕ) (k : ℕ) → entry work k < entry-limit
 entry-small work k = small (getD work k 0)
   where
-    small : (x : ℕ) → x % walked-bit < walked-bit
+    small : (x : ℕ) → x % entry-limit < entry-limit
     small x = omega arith
 
 -- ---- of what stands at a vertex and c, the less

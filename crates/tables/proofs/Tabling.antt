@@ -17,7 +17,7 @@ use Rattle.numbers.specs.Next.{most-halfedges}
 use Rattle.numbers.proofs.Names.{at-inj, names-below}
 use Rattle.rows.specs.Halfedges.{endOf, is-started, is-ended}
 use Rattle.searches.specs.Duplicates.{fan, ends-alike, is-duplicate, is-in}
-use Rattle.ordering.specs.Order.{walked-bit, see, place, is-walked, entry}
+use Rattle.ordering.specs.Order.{walked-bit, entry-limit, see, place, is-walked, entry}
 use Rattle.ordering.proofs.Words.{bit, see-bit, see-entry, see-other, place-bit, place-entry, place-other}
 use Rattle.duplicates.specs.Scan.{Entries, entries, push-all, picked, Scan, scan}
 use Rattle.duplicates.proofs.Scans.{Below, fan-in, or-assoc, or-comm, Scanning, scanning-begins, scanning-passed, scanning-walked}
@@ -78,8 +78,8 @@ module _ (H N capacity : ℕ) (rows : List ℤ) (few : H ≤ most-halfedges) (in
     long : length (see c (t .work)) ≡ length (t .work)
     long = length-set (t .work) c _
 
-    small : (u : ℕ) → lesser (entry (see c (t .work)) u) c < walked-bit
-    small u = lesser-bound (entry (see c (t .work)) u) c walked-bit (entry-small (see c (t .work)) u) (omega arith)
+    small : (u : ℕ) → lesser (entry (see c (t .work)) u) c < entry-limit
+    small u = lesser-bound (entry (see c (t .work)) u) c entry-limit (entry-small (see c (t .work)) u) (omega arith)
 
     at-entry : (y : Named) → ((u : ℕ) → y ≡ at u → u < N) → (v : ℕ) → entry (enter-at c y (table (see c (t .work)) (t .twice)) .work) v ≡ lowered N rows v (entry (t .work) v) c y
     at-entry nothing f v = low v
@@ -87,7 +87,7 @@ module _ (H N capacity : ℕ) (rows : List ℤ) (few : H ≤ most-halfedges) (in
         let m : u < length (see c (t .work)) = omega (arith, f u refl, long) in
         elim (ℕ-discrete v u) [
           | yes e ↦ rw (e, eq-eqb u u refl) (place-entry (see c (t .work)) u (lesser (entry (see c (t .work)) u) c) m (small u) ∙ ap (λ (x : ℕ). lesser x c) (low u))
-          | no q ↦ rw (ne-eqb u v (λ z. q (sym z))) (ap (λ (x : ℕ). x % walked-bit) (place-other (see c (t .work)) u (lesser (entry (see c (t .work)) u) c) v q) ∙ low v)
+          | no q ↦ rw (ne-eqb u v (λ z. q (sym z))) (ap (λ (x : ℕ). x % entry-limit) (place-other (see c (t .work)) u (lesser (entry (see c (t .work)) u) c) v q) ∙ low v)
         ]
 
     pub enter-entry : (v : ℕ) → entry (enter N rows c t .work) v ≡ lowered N rows v (entry (t .work) v) c end
@@ -195,7 +195,7 @@ module _ (H N capacity : ℕ) (rows : List ℤ) (few : H ≤ most-halfedges) (in
         number (at u) = 1
     back-entry (at u) f v w = elim (ℕ-discrete v u) [
       | yes e ↦ rw e (place-entry work u 0 (omega (arith, f u refl)) (omega arith))
-      | no q ↦ ap (λ (x : ℕ). x % walked-bit) (place-other work u 0 v q) ∙ ⊎-elim (λ e. e) (λ e. absurd (q (sym (at-inj e)))) w
+      | no q ↦ ap (λ (x : ℕ). x % entry-limit) (place-other work u 0 v q) ∙ ⊎-elim (λ e. e) (λ e. absurd (q (sym (at-inj e)))) w
     ]
 
     back-walked : (y : Named) → ((u : ℕ) → y ≡ at u → u < N) → (k : ℕ) → is-walked (clear-at y work) k ≡ is-walked work k

@@ -9,32 +9,11 @@ ghost use Rattle.numbers.specs.Numbers.{halfedgeNumber, names};
 ghost use Rattle.rows.specs.Halfedges.{endOf, lent-halfedges};
 ghost use Rattle.steps.specs.Steps.{InUse};
 ghost use Rattle.searches.specs.Duplicates.{fan};
-ghost use Rattle.ordering.specs.Order.{walked-bit, see, place};
 ghost use Rattle.duplicates.specs.Scan.{entries, push-all, picked, scan, found};
 ghost use Rattle.tables.specs.Table.{table, lesser, enter, enter-all, is-over, clear-at, clear-all, is-done, table-row};
 use numbers::Halfedge;
 use numbers::NamedHalfedge;
 use numbers::NamedVertex;
-
-// The bit of an entry that says of half-edge k that a walk has met it.
-const WALKED: u32 = 2147483648;
-
-// Sets the walked bit of half-edge h.
-fn see(work: &mut [u32], h: usize)
-    requires { ⌜ h < length (now work) ⌝ }
-    ensures { λ _. ⌜ now (work .exit) ≡ see h (now (work .entry)) ⌝ }
-{
-    work[h] = work[h] % WALKED + WALKED;
-}
-
-// Puts x at vertex v.
-fn place(work: &mut [u32], v: usize, x: usize)
-    requires { ⌜ (v < length (now work)) × (x < walked-bit) ⌝ }
-    ensures { λ _. ⌜ now (work .exit) ≡ place v x (now (work .entry)) ⌝ }
-{
-    let old = work[v];
-    work[v] = old / WALKED * WALKED + x as u32;
-}
 
 // Of what stands at a vertex and c, the less.
 fn lesser(x: usize, c: usize) -> usize
@@ -53,13 +32,13 @@ fn enter(rows: &[i32], work: &mut [u32], vertices: usize, twice: bool, c: Halfed
     ensures { λ r. ⌜ table (now (work .exit)) r ≡ enter vertices (now (rows .entry)) (halfedgeNumber c) (table (now (work .entry)) twice) ⌝ }
 {
     let k = c.number();
-    see(work, k);
+    fanwalks::see(work, k);
     let NamedVertex::At(end) = rows::halfedges::end_of(rows, c, vertices) else {
         return twice;
     };
     let v = end.number();
     let x = fanwalks::entry_at(work, v);
-    place(work, v, lesser(x, k));
+    fanwalks::place(work, v, lesser(x, k));
     twice | (x != 0)
 }
 
@@ -128,7 +107,7 @@ fn clear(rows: &[i32], work: &mut [u32], vertices: usize, c: Halfedge)
     let NamedVertex::At(end) = rows::halfedges::end_of(rows, c, vertices) else {
         return;
     };
-    place(work, end.number(), 0);
+    fanwalks::place(work, end.number(), 0);
 }
 
 // Takes back what the fan of i has entered.

@@ -4,7 +4,7 @@ use native.Mathlib.Omega.{arith}
 use Rattle.numbers.specs.Numbers.{vertexNamed}
 use Rattle.numbers.proofs.Names.{names-below}
 use Rattle.rows.specs.Halfedges.{endOf}
-use Rattle.ordering.specs.Order.{walked-bit}
+use Rattle.ordering.specs.Order.{entry-limit}
 use Rattle.tables.specs.Table.{lesser, enter}
 use Rattle.tables.proofs.Least.{lesser-bound}
 use borrow.Author.Needs.{needs}
@@ -43,7 +43,7 @@ lesser-requires : tie.Need-lesser-requires
 lesser-requires c κs = omega (arith, c .before .before .before .before .before .before .before .before .before .before .before .before .number .ensures, c .before .before .before .before .before .before .before .before .before .before .before .before .before .before .pre .0 .1)
 
 place-requires : tie.Need-place-requires
-place-requires c κs = (omega (arith, c .before .before .before .before .number2 .ensures, names-below (endOf (c .before .before .before .before .before .before .before .before .before .before .before .before .before .before .before .args .rows .now) (c .before .before .before .before .before .before .before .before .before .before .before .before .before .before .before .args .c .0)) (c .before .before .before .before .before .before .before .before .before .before .before .before .before .before .before .args .vertices) (sym (c .before .before .before .before .before .before .before .before .end-of .ensures) ∙ ap vertexNamed (c .before .before .before .before .before .before .end .given .1)), c .before .before .before .before .before .before .before .before .before .before .before .see .kept .0, c .before .before .before .before .before .before .before .before .before .before .before .before .before .before .before .pre .1 .1), rw (c .lesser .ensures) (lesser-bound (c .before .before .entry-at .result) (c .before .before .before .before .before .before .before .before .before .before .before .before .before .number .result) walked-bit (omega (arith, c .before .before .entry-at .ensures)) (omega (arith, c .before .before .before .before .before .before .before .before .before .before .before .before .before .number .ensures, c .before .before .before .before .before .before .before .before .before .before .before .before .before .before .before .pre .0 .1))))
+place-requires c κs = (omega (arith, c .before .before .before .before .number2 .ensures, names-below (endOf (c .before .before .before .before .before .before .before .before .before .before .before .before .before .before .before .args .rows .now) (c .before .before .before .before .before .before .before .before .before .before .before .before .before .before .before .args .c .0)) (c .before .before .before .before .before .before .before .before .before .before .before .before .before .before .before .args .vertices) (sym (c .before .before .before .before .before .before .before .before .end-of .ensures) ∙ ap vertexNamed (c .before .before .before .before .before .before .end .given .1)), c .before .before .before .before .before .before .before .before .before .before .before .see .kept .0, c .before .before .before .before .before .before .before .before .before .before .before .before .before .before .before .pre .1 .1), rw (c .lesser .ensures) (lesser-bound (c .before .before .entry-at .result) (c .before .before .before .before .before .before .before .before .before .before .before .before .before .number .result) entry-limit (omega (arith, c .before .before .entry-at .ensures)) (omega (arith, c .before .before .before .before .before .before .before .before .before .before .before .before .before .number .ensures, c .before .before .before .before .before .before .before .before .before .before .before .before .before .before .before .pre .0 .1))))
 
 same-length-2 : tie.Need-same-length-2
 same-length-2 c = c .before .before .place .kept .0 ∙ c .before .before .before .before .before .before .before .before .before .before .before .before .before .before .see .kept .0
