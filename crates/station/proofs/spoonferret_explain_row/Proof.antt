@@ -17,7 +17,7 @@ of-explain-requires c κs = search needs
 
 returns : tie.Need-returns
 returns c =
-    rw (c .of-explain .ensures) (ap explain-told (rw (toZ-ofZ (c .before .before .before .fits .row), c .before .before .counts-of .ensures) at (c .before .explain-row .ensures)))
+    rw (c .of-explain .ensures) (ap explain-told (rw (toZ-ofZ (c .before .before .before .before .before .before .fits .row), c .before .before .counts-of .ensures) at (c .before .explain-row .ensures)))
 
 pub spoonferret-explain-row-spec : {M : Type 1} → statement M
 spoonferret-explain-row-spec =
