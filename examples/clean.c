@@ -87,6 +87,8 @@ int main(int count, char **words) {
             printf("refused by %" PRIu32 "\n", checked.number);
             if (checked.number == SPOONFERRET_UNSOUND) {
                 printf("row %zu, in triangle %zu\n", checked.row, checked.row / 3);
+                const spoonferret_explain_answer why = spoonferret_net_explain_row(&net, (int32_t)checked.row);
+                fprintf(stderr, "it breaks clause %" PRIu32 " first (docs/MANUAL.md, answer 3), with row %zu\n", why.clause, why.other);
             }
             fprintf(stderr, "%s\n", spoonferret_answer_text(checked.number));
             release(&net, &buffers);

@@ -108,6 +108,10 @@ static inline spoonferret_row_answer spoonferret_net_check(const spoonferret_net
     return spoonferret_check_net(SPOONFERRET_ROWS(net));
 }
 
+static inline spoonferret_explain_answer spoonferret_net_explain_row(const spoonferret_net *net, int32_t row) {
+    return spoonferret_explain_row(SPOONFERRET_ROWS(net), row);
+}
+
 static inline spoonferret_answer spoonferret_net_pair_up(spoonferret_net *net, int32_t first, int32_t second) {
     return spoonferret_pair_up(SPOONFERRET_ROWS(net), first, second);
 }

@@ -61,7 +61,7 @@ static void numbers(int32_t a, int32_t b, int32_t c) {
 
 /* what the next call answers; the values are all different */
 static uint32_t answer;
-enum { ROW = 901, ADDED = 902, STEPS = 903, COUNT = 904, HALFEDGES = 906, VERTICES = 907, SQUARED = 908, LIMIT = 909 };
+enum { ROW = 901, ADDED = 902, STEPS = 903, COUNT = 904, CLAUSE = 905, OTHER = 910, HALFEDGES = 906, VERTICES = 907, SQUARED = 908, LIMIT = 909 };
 
 #define NET_CONST                                                                                                                        \
     spoonferret_used used, const int32_t *halfedges, size_t halfedges_length, const uint64_t *positions, size_t positions_length,        \
@@ -88,6 +88,12 @@ enum { ROW = 901, ADDED = 902, STEPS = 903, COUNT = 904, HALFEDGES = 906, VERTIC
 spoonferret_row_answer spoonferret_check_net(NET_CONST) {
     NOTE;
     return (spoonferret_row_answer){answer, ROW};
+}
+
+spoonferret_explain_answer spoonferret_explain_row(NET_CONST, int32_t row) {
+    NOTE;
+    numbers(row, 0, 0);
+    return (spoonferret_explain_answer){answer, CLAUSE, OTHER};
 }
 
 spoonferret_answer spoonferret_pair_up(NET_ROWS, int32_t first, int32_t second) {
@@ -225,6 +231,11 @@ static void each(uint32_t said) {
     spoonferret_row_answer row = spoonferret_net_check(&net);
     GIVEN("spoonferret_check_net", 5);
     EXPECT(row.number == said && row.row == ROW && counts(&net, 11, 12, 13, 14));
+
+    spoonferret_explain_answer explained = spoonferret_net_explain_row(&net, 41);
+    GIVEN("spoonferret_explain_row", 5);
+    EXPECT(explained.number == said && explained.clause == CLAUSE && explained.other == OTHER);
+    EXPECT(noted.numbers[0] == 41 && counts(&net, 11, 12, 13, 14));
 
     EXPECT(spoonferret_net_pair_up(&net, 41, 42).number == said);
     GIVEN("spoonferret_pair_up", 5);
