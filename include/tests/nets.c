@@ -64,6 +64,7 @@ static spoonferret_buffers lent(const spoonferret_net *net) {
 enum { SPARES = 1, WORDS = 2, LIST = 4, BYTES = 8, CAPACITY = 16, VERTICES = 32 };
 
 static uint32_t check(spoonferret_net *n, spoonferret_buffers *b) { return (void)b, spoonferret_net_check(n).number; }
+static uint32_t explain(spoonferret_net *n, spoonferret_buffers *b) { return (void)b, spoonferret_net_explain_row(n, 0).number; }
 static uint32_t pair(spoonferret_net *n, spoonferret_buffers *b) { return (void)b, spoonferret_net_pair_up(n, 0, 7).number; }
 static uint32_t update(spoonferret_net *n, spoonferret_buffers *b) { return (void)b, spoonferret_net_update_vert(n, 3, 0, 5).number; }
 static uint32_t collapse_tri(spoonferret_net *n, spoonferret_buffers *b) { return (void)b, spoonferret_net_collapse_tri(n, 0).number; }
@@ -83,8 +84,9 @@ static const struct {
     const char *name;
     uint32_t (*call)(spoonferret_net *, spoonferret_buffers *);
     int needs;
-} calls[12] = {
+} calls[13] = {
     {"check", check, 0},
+    {"explain_row", explain, 0},
     {"pair_up", pair, 0},
     {"update_vert", update, 0},
     {"collapse_tri", collapse_tri, 0},
@@ -109,7 +111,7 @@ static void moved(int k, size_t offset, size_t value, uint32_t owed, int line) {
 #define MOVED(field, value, owed) moved(k, offsetof(spoonferret_net, field), value, owed, __LINE__)
 
 static void counts_and_lengths(void) {
-    for (int k = 0; k < 12; k++) {
+    for (int k = 0; k < 13; k++) {
         MOVED(used.num_prop, 2, 0);
         /* each count one more than its array has rows for, or than fits the others */
         MOVED(used.halfedges, 13, 1);
@@ -149,7 +151,7 @@ static void short_of(int k, size_t offset, size_t length, int owed, int line) {
 #define SHORT(field, length, owed) short_of(k, offsetof(spoonferret_buffers, field), length, owed, __LINE__)
 
 static void buffers(void) {
-    for (int k = 0; k < 12; k++) {
+    for (int k = 0; k < 13; k++) {
         const int needs = calls[k].needs;
         const size_t rows = needs & CAPACITY ? 24 : 12;
         SHORT(spare_halfedges_length, 48, needs & SPARES);
@@ -164,6 +166,11 @@ static void buffers(void) {
 static void places(void) {
     spoonferret_net net = fresh(example, 5);
     spoonferret_buffers b = lent(&net);
+    halfedges[4 * 10 + 2] = 6;
+    spoonferret_explain_answer why = spoonferret_net_explain_row(&net, 8);
+    EXPECT(why.number == 0 && why.clause == 2 && why.other == 10);
+    EXPECT(spoonferret_net_explain_row(&net, 7).clause == 0 && spoonferret_net_explain_row(&net, 12).number == 4);
+    net = fresh(example, 5);
     EXPECT(spoonferret_net_pair_up(&net, 0, 7).number == 0 && halfedges[2] == 7 && halfedges[30] == 0);
 
     net = fresh(example, 5);

@@ -11,19 +11,34 @@ pub enum Clause {
     /// 1: its pair names no half-edge in use
     NoPartner,
     /// 2: its partner's pair is another row
-    NotBack { partner: usize },
+    NotBack {
+        /// the partner
+        partner: usize,
+    },
     /// 3: its start or its end names no vertex in use
     NoVertex,
     /// 4: another row of its triangle has no pair
-    Unpaired { row: usize },
+    Unpaired {
+        /// the row that has none
+        row: usize,
+    },
     /// 5: its end is not the start of its next
-    NotJoined { next: usize },
+    NotJoined {
+        /// the next
+        next: usize,
+    },
     /// 6: its partner's ends are not its own, exchanged
-    NotMirrored { partner: usize },
+    NotMirrored {
+        /// the partner
+        partner: usize,
+    },
     /// 7: two of its triangle's three starts agree
     StartsAlike,
     /// 8: it is empty, and another row of its triangle is not
-    PartlyDead { row: usize },
+    PartlyDead {
+        /// the row that is not
+        row: usize,
+    },
 }
 
 impl Clause {
