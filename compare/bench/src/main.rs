@@ -38,6 +38,10 @@ struct Course {
     to: usize,
     /// a half-edge of two triangles that have folded onto each other, the last two
     folded: usize,
+    /// the rows that a collapse at `from` may write, as they are
+    beside_start: Vec<(usize, [i32; 4])>,
+    /// for the entries that work in rounds alone
+    wide: bool,
 }
 
 /// One entry beside what is done in its place. Each call leaves the net as it was: what surgery changed is put back.
@@ -50,9 +54,11 @@ struct Race {
     shares: &'static [(&'static str, fn(&mut Course))],
     /// the Rust's call takes a time that does not grow with the net
     constant: bool,
-    /// on the largest torus, by its order: the most that was wanted of the Rust's time
+    /// on the largest torus, by its order, or on the net of that name: the most that was wanted of the Rust's time
     wanted: &'static [(&'static str, f64)],
 }
+
+const WIDE: &str = "bipyramid of valence 100,000";
 
 const RACES: &[Race] = &[
     Race {
@@ -142,6 +148,47 @@ const RACES: &[Race] = &[
         wanted: &[],
     },
     Race {
+        entry: "dedupe_edges",
+        beside: "the Rust's dedupe_edges",
+        ours: dedupe_edges,
+        theirs: |c| edge_op::dedupe_edges(&mut c.mesh),
+        shares: &[("soundness", check_net), ("the spare", fill_spare), ("clearing", clear_words_and_list)],
+        constant: false,
+        wanted: &[("in order", 0.8), ("shuffled", 0.8), (WIDE, 0.002)],
+    },
+    Race {
+        entry: "cleanup_topology",
+        beside: "the Rust's cleanup_topology",
+        ours: cleanup_topology,
+        theirs: |c| edge_op::cleanup_topology(&mut c.mesh),
+        shares: &[("soundness", check_net), ("the spare", fill_spare), ("clearing", clear_words_and_list)],
+        constant: false,
+        wanted: &[("in order", 0.9), ("shuffled", 0.9)],
+    },
+    Race {
+        entry: "dedupe_edge",
+        beside: "the Rust's dedupe_edge",
+        ours: dedupe_edge,
+        theirs: |c| {
+            let kept: [_; 6] = c.mesh.halfedge[c.folded..].try_into().expect("six rows");
+            edge_op::dedupe_edge(&mut c.mesh, c.folded);
+            c.mesh.halfedge[c.folded..].copy_from_slice(&kept);
+            c.mesh.vert_pos.truncate(c.net.used.vertices);
+        },
+        shares: &[("soundness", check_net), ("the spare", fill_spare)],
+        constant: true,
+        wanted: &[],
+    },
+    Race {
+        entry: "collapse_edge",
+        beside: "the Rust's collapse_edge",
+        ours: collapse_edge,
+        theirs: collapsed_by_the_rust,
+        shares: &[("soundness", check_net), ("the spare", fill_spare)],
+        constant: true,
+        wanted: &[],
+    },
+    Race {
         entry: "the crate's split_pinched_verts",
         beside: "split_pinched_verts",
         ours: |c| safe::split_pinched_verts(&mut c.mesh).expect("a sound net"),
@@ -199,9 +246,9 @@ macro_rules! call {
                 $l.halfedges.len(),
                 $l.positions.as_mut_ptr(),
                 $l.positions.len(),
-                $l.normals.as_ptr(),
+                $l.normals.as_mut_ptr(),
                 $l.normals.len(),
-                $l.references.as_ptr(),
+                $l.references.as_mut_ptr(),
                 $l.references.len(),
                 $l.properties.as_ptr(),
                 $l.properties.len()
@@ -272,6 +319,118 @@ fn form_loop(c: &mut Course) {
     assert_eq!(told.number, 0);
 }
 
+/// The entries that take the spares, the work buffer and the list; there is nothing to do.
+macro_rules! in_rounds {
+    ($name:ident, $entry:ident, $work:expr) => {
+        fn $name(c: &mut Course) {
+            let l = &mut c.net;
+            let work: usize = $work(l);
+            let told = call!(
+                $entry,
+                l,
+                l.spare_halfedges.as_mut_ptr(),
+                l.spare_halfedges.len(),
+                l.spare_positions.as_mut_ptr(),
+                l.spare_positions.len(),
+                l.work_words.as_mut_ptr(),
+                work,
+                l.list.as_mut_ptr(),
+                l.list.len()
+            );
+            assert_eq!((told.number, told.halfedges, told.vertices), (0, l.used.halfedges, l.used.vertices));
+        }
+    };
+}
+
+in_rounds!(dedupe_edges, spoonferret_dedupe_edges, |l: &Lent| l.used.halfedges);
+in_rounds!(cleanup_topology, spoonferret_cleanup_topology, |l: &Lent| l.used.halfedges + l.used.vertices);
+
+fn dedupe_edge(c: &mut Course) {
+    let l = &mut c.net;
+    let kept: [i32; 24] = l.halfedges[4 * c.folded..4 * c.folded + 24].try_into().expect("six rows");
+    let told = call!(
+        spoonferret_dedupe_edge,
+        l,
+        l.spare_halfedges.as_mut_ptr(),
+        l.spare_halfedges.len(),
+        l.spare_positions.as_mut_ptr(),
+        l.spare_positions.len(),
+        c.folded as i32
+    );
+    assert_eq!((told.number, told.vertices), (0, l.used.vertices + 2));
+    l.halfedges[4 * c.folded..4 * c.folded + 24].copy_from_slice(&kept);
+}
+
+/// A collapse at `from` on our side is put back: the rows beside the start, and its position.
+fn put_back(c: &mut Course) {
+    let l = &mut c.net;
+    for (h, row) in &c.beside_start {
+        l.halfedges[4 * h..4 * h + 4].copy_from_slice(row);
+    }
+    let v = l.halfedges[4 * c.from] as usize;
+    l.positions[3 * v..3 * v + 3].fill(START.to_bits());
+}
+
+fn collapse_edge(c: &mut Course) {
+    let l = &mut c.net;
+    let told = call!(
+        spoonferret_collapse_edge,
+        l,
+        l.spare_halfedges.as_mut_ptr(),
+        l.spare_halfedges.len(),
+        l.spare_positions.as_mut_ptr(),
+        l.spare_positions.len(),
+        l.list.as_mut_ptr(),
+        l.list.len(),
+        c.from as i32,
+        i32::MAX,
+        LONG,
+        LONG
+    );
+    assert_eq!((told.number, told.vertices), (0, l.used.vertices));
+    put_back(c);
+}
+
+fn collapsed_by_the_rust(c: &mut Course) {
+    let mut list = vec![];
+    assert!(edge_op::collapse_edge(&mut c.mesh, c.from, &mut list, LONG, i32::MAX));
+    for (h, r) in &c.beside_start {
+        c.mesh.halfedge[*h] = original::types::Halfedge { start_vert: r[0], end_vert: r[1], paired_halfedge: r[2], prop_vert: r[3] };
+    }
+    let v = c.net.halfedges[4 * c.from] as usize;
+    c.mesh.vert_pos[v] = original::linalg::Vec3::new(START, START, START);
+}
+
+/// Above every length there is; every coordinate of the vertex where `from` starts.
+const LONG: f64 = 1e9;
+const START: f64 = 0.5;
+
+/// The rows of the triangles at the start of h and their partners: what a collapse that forms no loop may write.
+fn rows_beside_start(l: &Lent, h: usize) -> Vec<(usize, [i32; 4])> {
+    let partner = |g: usize| l.halfedges[4 * g + 2] as usize;
+    let mut all = vec![];
+    let mut c = h;
+    loop {
+        for g in [c, next(c), next(next(c))] {
+            all.extend([g, partner(g)]);
+        }
+        c = next(partner(c));
+        if c == h {
+            break;
+        }
+    }
+    all.sort_unstable();
+    all.dedup();
+    all.into_iter().map(|g| (g, l.halfedges[4 * g..4 * g + 4].try_into().expect("a row"))).collect()
+}
+
+/// Work buffer and list are cleared before and after.
+fn clear_words_and_list(c: &mut Course) {
+    clear_words(c);
+    black_box(&mut c.net.list).fill(0);
+    black_box(&mut c.net.list).fill(0);
+}
+
 /// The work buffer is cleared before and after.
 fn clear_words(c: &mut Course) {
     black_box(&mut c.net.work_words).fill(0);
@@ -298,6 +457,9 @@ fn next(h: usize) -> usize {
 fn course(name: String, curve: Option<&'static str>, pieces: Vec<[usize; 3]>, in_order: bool, chance: &mut Chance) -> Course {
     let mut net = nets::built(pieces, in_order, chance);
     let (folded, v) = (net.used.halfedges, net.used.vertices);
+    let from = folded / 2;
+    let start = net.halfedges[4 * from] as usize;
+    net.positions[3 * start..3 * start + 3].fill(START.to_bits());
     for (k, pair) in [3, 5, 4, 0, 2, 1].into_iter().enumerate() {
         let (start, end) = ([0, 1, 2, 1, 0, 2][k], [1, 2, 0, 0, 2, 1][k]);
         net.halfedges.extend([(v + start) as i32, (v + end) as i32, (folded + pair) as i32, -1]);
@@ -322,10 +484,11 @@ fn course(name: String, curve: Option<&'static str>, pieces: Vec<[usize; 3]>, in
         .iter()
         .map(|h| sequential::types::Halfedge { start_vert: h.start_vert, end_vert: h.end_vert, paired_halfedge: h.paired_halfedge, prop_vert: h.prop_vert })
         .collect();
-    let from = folded / 2;
     let onward = |h: usize| net.halfedges[4 * next(h) + 2] as usize;
     let to = onward(onward(from));
-    Course { name, curve, net, mesh, rows, sequential_rows, from, to, folded }
+    let beside_start = rows_beside_start(&net, from);
+    let wide = name == WIDE;
+    Course { name, curve, net, mesh, rows, sequential_rows, from, to, folded, beside_start, wide }
 }
 
 fn courses(most: usize, chance: &mut Chance) -> Vec<Course> {
@@ -339,6 +502,9 @@ fn courses(most: usize, chance: &mut Chance) -> Vec<Course> {
     }
     let valence = 10_000.min(most / 2);
     all.push(course(format!("bipyramid of valence {}", with_commas(valence)), None, nets::bipyramid(valence), true, chance));
+    if most >= 200_000 {
+        all.push(course(WIDE.to_string(), None, nets::bipyramid(100_000), true, chance));
+    }
     let count = 10_000.min(most / 10);
     for (in_order, how) in [(true, "in order"), (false, "shuffled")] {
         let pieces = (0..count).flat_map(|i| nets::bipyramid(5).into_iter().map(move |t| t.map(|v| v + 7 * i))).collect();
@@ -392,6 +558,15 @@ fn timed(times: usize, course: &mut Course, f: fn(&mut Course)) -> f64 {
     (own_time() - start) / times as f64
 }
 
+/// Two digits behind the point, more of what is small.
+fn digits(x: f64) -> String {
+    if x < 0.02 {
+        format!("{x:.5}")
+    } else {
+        format!("{x:.2}")
+    }
+}
+
 /// Nanoseconds of one call, over the rounds.
 #[derive(Clone)]
 struct Time {
@@ -407,7 +582,7 @@ impl Time {
 
     /// Best and middle, each for one of so many.
     fn of_each(&self, count: f64) -> String {
-        format!("{:.2} / {:.2}", self.best / count, self.middle / count)
+        format!("{} / {}", digits(self.best / count), digits(self.middle / count))
     }
 
     /// Best and middle of a call, in the unit that the best wants.
@@ -421,7 +596,7 @@ impl Time {
 type Known = HashMap<(String, usize), Time>;
 
 /// Times of one entry on one net: ours, what it is beside, and each share by itself; what is known already is not timed again. A round has each of them once, long enough to
-/// be timed; at least fifteen rounds, at most sixty, and past fifteen no new one after three seconds.
+/// be timed; at least fifteen rounds (three where these take half a minute), at most sixty, and past fifteen no new one after three seconds.
 fn raced(race: &Race, course: &mut Course, number: usize, known: &mut Known) -> (Time, Time, Vec<Time>) {
     let times = (200_000 / course.net.used.halfedges).max(1);
     let mut runs = vec![(race.entry.to_string(), race.ours, times), (race.beside.to_string(), race.theirs, if race.constant { 1_000 } else { times })];
@@ -433,7 +608,8 @@ fn raced(race: &Race, course: &mut Course, number: usize, known: &mut Known) -> 
     let mut rounds = vec![vec![]; new.len()];
     let began = Instant::now();
     for round in 0..60 {
-        if round >= 15 && began.elapsed().as_secs() >= 3 || new.is_empty() {
+        let seconds = began.elapsed().as_secs();
+        if round >= 15 && seconds >= 3 || round >= 3 && seconds >= 30 || new.is_empty() {
             break;
         }
         for (taken, (_, f, times)) in rounds.iter_mut().zip(&new) {
@@ -474,7 +650,9 @@ fn run(words: &[String]) {
         );
         eprintln!("{} beside {}", race.entry, race.beside);
         let mut wanted = vec![];
-        for (number, course) in courses.iter_mut().enumerate() {
+        // the Rust's rounds are quadratic in the valence: the widest net shows that, and it is for them alone
+        let goes_round = ["dedupe_edges", "cleanup_topology"].contains(&race.entry);
+        for (number, course) in courses.iter_mut().enumerate().filter(|(_, c)| goes_round || !c.wide) {
             let rows = course.net.used.halfedges as f64;
             let (ours, theirs, shares) = raced(race, course, number, &mut known);
             let cell = |time: &Time| if race.constant { time.of_a_call() } else { time.of_each(rows) };
@@ -486,12 +664,13 @@ fn run(words: &[String]) {
             let line = format!("| {} | {} | {} |{shown} {one} | {other} |", course.name, with_commas(rows as usize), cell(&ours));
             eprintln!("{line}");
             let _ = writeln!(page, "{line}");
-            if let Some((order, most)) = race.wanted.iter().find(|(order, _)| course.name == format!("torus of 1,000,000 triangles, {order}")) {
+            let named = |order: &str| course.name == order || course.name == format!("torus of 1,000,000 triangles, {order}");
+            if let Some((order, most)) = race.wanted.iter().find(|(order, _)| named(order)) {
                 let beyond = if ratio.best <= *most { String::new() } else { format!(", {:.0} % more", 100.0 * (ratio.best / most - 1.0)) };
-                wanted.push(format!("{order} at most {most:.2}, and it is {}{beyond}", ratio.of_each(1.0)));
+                wanted.push(format!("{order} at most {}, and it is {}{beyond}", digits(*most), ratio.of_each(1.0)));
             }
-            // the other three of surgery take the time of check_net, and the Rust's split is there once
-            let drawn = !race.entry.starts_with("the crate's") && (!race.constant || race.entry == "form_loop");
+            // the others of surgery take the time of these shares, cleanup that of split and dedupe_edges, and the Rust's split is there once
+            let drawn = !race.entry.starts_with("the crate's") && race.entry != "cleanup_topology" && (!race.constant || race.entry == "form_loop");
             if let Some(curve) = course.curve.filter(|_| drawn) {
                 // orbit_owners runs twice
                 if race.beside != "the Rust's orbit_owners, made one after another" {
@@ -524,12 +703,12 @@ const OPENING: &str = "# Speed
 it cache and no waiting; each cell has the best and the middle of at least 15 rounds, and a ratio is that of the two bests and that of the two middles. What stands in several \
 tables was timed once. Each net has two folded triangles besides, and no vertex of it is pinched.
 
-**A step of surgery costs a pass over the net.** update_vert, collapse_tri, remove_if_folded and form_loop read the whole net before they touch it, to refuse one that is not sound; the Rust's touch a \
+**A step of surgery costs a pass over the net.** update_vert, collapse_tri, remove_if_folded, form_loop, dedupe_edge and collapse_edge read the whole net before they touch it, to refuse one that is not sound; the Rust's touch a \
 few rows. On a million triangles that is milliseconds beside nanoseconds, whatever the edge. It is the price of a call that may be made on any net at any time. A job uses what goes over the \
 whole net in one call (split_pinched_verts, dedupe_edges, cleanup_topology), where the check is a share of the work; a loop over edges wants a batch, which comes by request.
 
 What the Rust does not do is shown by itself, as the time of work of the same size: soundness is check_net on the same net, the spare a copy of the half-edge \
-and position rows in use, clearing the two fills of the work buffer.
+and position rows in use, clearing the two fills of the work buffer, and of the list where there is one.
 ";
 
 const CLOSING: &str = "
@@ -547,8 +726,11 @@ the other (the pair, then next of it), as the Rust's is; what it has more is the
 orbit_owners is for nets that need not be sound, so it has no such check; it clears its work buffer before and after. The Rust's is the build with the feature \
 `parallel`, threshold 0: once over rayon with one thread, and once over a stand-in that makes one after another what rayon would share out.
 
-The four operations of surgery are asked at one half-edge, and what they change is put back before the next call. The Rust's calls touch a few rows and take the same time \
-whatever the net; ours read the whole net first, to refuse one that is not sound, and form_loop copies it into the spare, to put it back where it is refused. So their time is that \
+dedupe_edges and cleanup_topology are asked of nets with nothing to do: one round, which lists no duplicate, and before it cleanup's split. The Rust finds the least half-edge of each end by going \
+through a list of the ends met before, so its time grows with the square of the valence; ours keeps a table in the work buffer.
+
+The operations of surgery are asked at one half-edge, and what they change is put back before the next call. The Rust's calls touch a few rows and take the same time \
+whatever the net; ours read the whole net first, to refuse one that is not sound, and form_loop, dedupe_edge and collapse_edge copy it into the spare, to put it back where they are refused. So their time is that \
 of these shares: their own work is too small beside it to be measured here.
 
 The Rust crate's calls are those of its module edge_op over the Rust's own mesh, in kept buffers, beside the library's own functions on arrays of the same rows: what the crate adds is the room that it \
