@@ -29,6 +29,8 @@ Out = Said × (List ℤ × List ℕ)
 abbrev pub with-arrays : Said → Middle → Out
 with-arrays s m = (s, (m .halfedges, m .positions))
 
+-- it says done without asking how the step's run ended: past the checks e is live in rows in order, where the step cannot stop (fold-goes
+-- in foldsound/proofs/Steps.antt)
 unfoldable pub foldNamed : ℕ → ℕ → List ℤ → List ℕ → Named → Out
 foldNamed H N rows positions halfedge =
     named-or (bad-number, (rows, positions)) halfedge (λ e.

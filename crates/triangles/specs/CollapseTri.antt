@@ -22,7 +22,8 @@ collapseSaid (C.Unsound h) = unsound (halfedgeNumber h)
 collapseSaid C.Number = bad-number
 collapseSaid C.Dead = dead
 
--- what is said, and the half-edge rows afterwards
+-- what is said, and the half-edge rows afterwards. It says done without asking how the step's run ended: past the checks e is live in rows
+-- in order, where the step cannot stop (collapse-goes in proofs/Told.antt)
 unfoldable pub collapseNamed : ℕ → List ℤ → Named → Said × List ℤ
 collapseNamed H rows halfedge =
     named-or (bad-number, rows) halfedge (λ e. cond (is-paired rows e) (done [], collapse H e (begin rows [] 0) .halfedges) (dead, rows))
