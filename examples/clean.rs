@@ -50,9 +50,6 @@ fn main() -> ExitCode {
         println!("refused by {}", refusal.number());
         if let Refusal::Unsound { row, .. } = refusal {
             println!("row {row}, in triangle {}", row / 3);
-            if let Ok(clause) = net.explain_row(row as i32) {
-                eprintln!("{clause}");
-            }
         }
         eprintln!("{refusal}");
         return ExitCode::from(1);

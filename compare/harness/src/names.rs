@@ -151,7 +151,7 @@ pub fn beside(entry: &Entry, net: &Lent, asked: &Asked) -> Option<(u32, Option<S
         Err(refusal) => {
             let owed = (entry.owed)(&mut roomy(net, refusal == Refusal::NoRoom), asked);
             let values = match refusal {
-                Refusal::Unsound { row } => Said::with(3, &[row as u64]).values,
+                Refusal::Unsound { row, .. } => Said::with(3, &[row as u64]).values,
                 Refusal::Long { squared_length, limit } => vec![squared_length.to_bits(), limit.to_bits()],
                 _ => vec![],
             };

@@ -39,24 +39,48 @@ pub enum Clause {
         /// the row that is not
         row: usize,
     },
+    /// A clause that this crate has no case for. The library that it was made with names none.
+    Other {
+        /// the clause's number
+        number: u32,
+        /// the other row
+        row: usize,
+    },
 }
 
-impl Clause {
-    /// The clause of that number, with the other row.
-    pub(crate) fn of(clause: u32, other: usize) -> Clause {
-        match clause {
-            0 => Clause::InOrder,
-            1 => Clause::NoPartner,
-            2 => Clause::NotBack { partner: other },
-            3 => Clause::NoVertex,
-            4 => Clause::Unpaired { row: other },
-            5 => Clause::NotJoined { next: other },
-            6 => Clause::NotMirrored { partner: other },
-            7 => Clause::StartsAlike,
-            8 => Clause::PartlyDead { row: other },
-            other => unreachable!("the library names no clause {other}"),
+/// Each number and its case, with what the other row is to it.
+macro_rules! table {
+    ($($number:literal: $case:ident $({ $other:ident })?),* $(,)?) => {
+        impl Clause {
+            /// The number of the clause, as docs/MANUAL.md has it under answer 3.
+            pub fn number(&self) -> u32 {
+                match self {
+                    $(Clause::$case { .. } => $number,)*
+                    Clause::Other { number, .. } => *number,
+                }
+            }
+
+            /// The clause of that number, with the other row.
+            pub(crate) fn of(number: u32, row: usize) -> Clause {
+                match number {
+                    $($number => Clause::$case $({ $other: row })?,)*
+                    _ => Clause::Other { number, row },
+                }
+            }
         }
-    }
+    };
+}
+
+table! {
+    0: InOrder,
+    1: NoPartner,
+    2: NotBack { partner },
+    3: NoVertex,
+    4: Unpaired { row },
+    5: NotJoined { next },
+    6: NotMirrored { partner },
+    7: StartsAlike,
+    8: PartlyDead { row },
 }
 
 impl fmt::Display for Clause {
@@ -71,6 +95,7 @@ impl fmt::Display for Clause {
             Clause::NotMirrored { partner } => write!(f, "its partner, row {partner}, does not run the opposite way between the same two vertices"),
             Clause::StartsAlike => write!(f, "two of its triangle's three corners are at the same vertex"),
             Clause::PartlyDead { row } => write!(f, "it is empty, and row {row} of its triangle is not"),
+            Clause::Other { number, row } => write!(f, "it breaks clause {number}, with row {row}"),
         }
     }
 }

@@ -2,7 +2,8 @@
 //! calls made with them, and the lengths of vectors after a call.
 
 use crate::raw::Used;
-use crate::{HalfedgeRow, Layout, Refusal};
+use crate::refusal::Carried;
+use crate::{Clause, HalfedgeRow, Layout, Refusal};
 use std::marker::PhantomData;
 use std::mem::MaybeUninit;
 use std::ptr::NonNull;
@@ -55,6 +56,19 @@ macro_rules! call {
 }
 
 impl Arrays<'_> {
+    /// The value where an entry that asks for a sound net, called with these arrays, said 0; else the refusal of that number with what it carries. Of 3 and its row
+    /// the arrays, which are as they were, say which clause the row breaks.
+    pub fn unless_done<T>(&self, number: u32, carried: Carried, done: T) -> Result<T, Refusal> {
+        let clause = if number == 3 { self.clause(carried.row) } else { carried.clause };
+        Refusal::carrying(number, Carried { clause, ..carried }, done)
+    }
+
+    /// The first clause that a row breaks, as explain_row tells it.
+    fn clause(&self, row: usize) -> Clause {
+        let told = call!(spoonferret_explain_row, self, row as i32);
+        Clause::of(told.clause, told.other)
+    }
+
     /// Where half-edge `h` starts: `h` is in use, and its start is a vertex.
     pub fn start(&self, h: usize) -> usize {
         assert!(h < self.used.halfedges);
@@ -63,7 +77,7 @@ impl Arrays<'_> {
     }
 }
 
-/// A net's rows, borrowed for reading. What is written through the pointers made from it is nothing: check_net and orbit_owners alone are called with them.
+/// A net's rows, borrowed for reading. What is written through the pointers made from it is nothing: check_net, explain_row and orbit_owners alone are called with them.
 pub(crate) struct Shared<'n, L: Layout> {
     pub halfedges: &'n [L::Halfedge],
     pub positions: &'n [L::Vector],

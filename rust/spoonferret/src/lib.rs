@@ -14,7 +14,7 @@
 //! [`raw`] has the library's functions themselves. Calls on different nets may run at once, on any threads: nothing is shared between them.
 //!
 //! ```
-//! use spoonferret::{Halfedge, Net, Refusal, Vec3};
+//! use spoonferret::{Clause, Halfedge, Net, Refusal, Vec3};
 //!
 //! // two triangles back to back
 //! let rows = [[0, 1, 3], [1, 2, 5], [2, 0, 4], [1, 0, 0], [0, 2, 2], [2, 1, 1]];
@@ -27,8 +27,11 @@
 //!
 //! net.halfedges[4].end_vert = 7;
 //! let refusal = net.check().unwrap_err();
-//! assert_eq!(refusal, Refusal::Unsound { row: 2 });
-//! assert_eq!(refusal.to_string(), "unsound (3): row 2 is the least row that is not in order");
+//! assert_eq!(refusal, Refusal::Unsound { row: 2, clause: Clause::NotMirrored { partner: 4 } });
+//! assert_eq!(
+//!     refusal.to_string(),
+//!     "unsound (3): row 2 is the least row that is not in order: its partner, row 4, does not run the opposite way between the same two vertices"
+//! );
 //! ```
 
 #![warn(missing_docs)]
@@ -103,8 +106,5 @@ pub fn tri_of(h: i32) -> Result<[i32; 3], Refusal> {
 /// ```
 pub fn short_test(from: Vec3, to: Vec3, end_vert: i32, first_new_vert: i32, tol: f64, epsilon: f64) -> Result<(), Refusal> {
     let told = unsafe { raw::spoonferret_short_test(from, to, end_vert, first_new_vert, tol, epsilon) };
-    if told.number == 8 {
-        return Err(Refusal::Long { squared_length: f64::from_bits(told.squared_length), limit: f64::from_bits(told.limit) });
-    }
-    Refusal::unless_done(told.number, ())
+    Refusal::carrying(told.number, refusal::Carried::NOTHING.lengths(told.squared_length, told.limit), ())
 }

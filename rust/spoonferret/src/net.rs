@@ -60,12 +60,12 @@ impl Net {
     ///
     /// # Errors
     ///
-    /// `Shape`; `Unsound` with the least row that is not in order.
+    /// `Shape`; `Unsound` with the least row that is not in order and the clause that it breaks.
     pub fn check(&self) -> Result<(), Refusal> {
         net_mut::check(&self.shared())
     }
 
-    /// Why a row is not in order: the first clause that it breaks, of the row that `Unsound` names or of any other. The net need not be sound.
+    /// Why a row is not in order: the first clause that it breaks, of any row; of the least, `Unsound` carries it. The net need not be sound.
     ///
     /// ```
     /// use spoonferret::{Clause, Halfedge, Net, Refusal, Vec3};
@@ -75,10 +75,10 @@ impl Net {
     ///     positions: vec![Vec3::default(); 3],
     ///     ..Net::default()
     /// };
-    /// assert_eq!(net.check(), Err(Refusal::Unsound { row: 2 }));
     /// let clause = net.explain_row(2)?;
     /// assert_eq!(clause, Clause::NotMirrored { partner: 4 });
     /// assert_eq!(clause.to_string(), "its partner, row 4, does not run the opposite way between the same two vertices");
+    /// assert_eq!(net.check(), Err(Refusal::Unsound { row: 2, clause }));
     /// assert_eq!(net.explain_row(0), Ok(Clause::InOrder));
     /// assert_eq!(net.explain_row(6), Err(Refusal::Number));
     /// # Ok::<(), Refusal>(())
@@ -289,7 +289,7 @@ impl Net {
     ///
     /// # Errors
     ///
-    /// `Shape`, `Unsound` with the least row that is not in order, `Number` and `Dead` of the half-edge, and `NoRoom` at the bounds of 1,000,000 triangles and
+    /// `Shape`, `Unsound` with the least row that is not in order and the clause that it breaks, `Number` and `Dead` of the half-edge, and `NoRoom` at the bounds of 1,000,000 triangles and
     /// vertices. The net is as it was. (`Stopped` is never given on a sound net.)
     ///
     /// ```
@@ -322,7 +322,7 @@ impl Net {
     ///
     /// # Errors
     ///
-    /// `Shape`, `Unsound` with the least row that is not in order, and `NoRoom` at the bounds of 1,000,000 triangles and vertices. The net is as it was.
+    /// `Shape`, `Unsound` with the least row that is not in order and the clause that it breaks, and `NoRoom` at the bounds of 1,000,000 triangles and vertices. The net is as it was.
     /// (`Stopped` is never given on a sound net.)
     ///
     /// ```
@@ -354,7 +354,7 @@ impl Net {
     ///
     /// # Errors
     ///
-    /// `Shape`, `Unsound` with the least row that is not in order, and `NoRoom` at the bounds of 1,000,000 triangles and vertices. The net is as it was.
+    /// `Shape`, `Unsound` with the least row that is not in order and the clause that it breaks, and `NoRoom` at the bounds of 1,000,000 triangles and vertices. The net is as it was.
     /// (`Stopped` is never given on a sound net.)
     ///
     /// ```
@@ -388,7 +388,7 @@ impl Net {
     ///
     /// # Errors
     ///
-    /// `Shape`, `Unsound` with the least row that is not in order, `Number` and `Dead` of the half-edge, `Long` with the squared length and the limit, `NoRoom`
+    /// `Shape`, `Unsound` with the least row that is not in order and the clause that it breaks, `Number` and `Dead` of the half-edge, `Long` with the squared length and the limit, `NoRoom`
     /// at the bound of 1,000,000 vertices, and `Stopped` where a walk does not end. The net is as it was.
     ///
     /// ```

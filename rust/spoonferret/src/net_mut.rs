@@ -2,6 +2,7 @@
 
 use crate::lending::{self, Arrays, InUse, Room, Shared, MOST_TRIANGLES, MOST_VERTICES};
 use crate::raw::Used;
+use crate::refusal::Carried;
 use crate::{Clause, Eligible, Layout, Refusal, Workspace};
 use std::marker::PhantomData;
 
@@ -115,7 +116,7 @@ macro_rules! on_the_whole {
             work.words(capacity + $words);
             work.list(capacity);
             let told = spares!($entry, arrays, work, work.words.as_mut_ptr(), work.words.len(), work.list.as_mut_ptr(), work.list.len());
-            Refusal::unless_sound_and_done(told.number, told.row, InUse { halfedges: told.halfedges, vertices: told.vertices })
+            arrays.unless_done(told.number, Carried::row(told.row), InUse { halfedges: told.halfedges, vertices: told.vertices })
         })
     }};
 }
@@ -266,7 +267,7 @@ impl<L: Layout> NetMut<'_, L> {
     ///
     /// # Errors
     ///
-    /// `Shape`; `Unsound` with the least row that is not in order.
+    /// `Shape`; `Unsound` with the least row that is not in order and the clause that it breaks.
     pub fn check(&self) -> Result<(), Refusal> {
         check(&self.shared())
     }
@@ -296,8 +297,9 @@ impl<L: Layout> NetMut<'_, L> {
     ///
     /// `Shape`; `Unsound`; `Number` of the vertex or a half-edge; `Dead` of a half-edge; `Stopped` where the walk does not come to `end`.
     pub fn update_vert(&mut self, vertex: i32, start: i32, end: i32) -> Result<(), Refusal> {
-        let told = call!(spoonferret_update_vert, self.lend_as_it_is()?, vertex, start, end);
-        Refusal::unless_sound_and_done(told.number, told.row, ())
+        let arrays = self.lend_as_it_is()?;
+        let told = call!(spoonferret_update_vert, arrays, vertex, start, end);
+        arrays.unless_done(told.number, Carried::row(told.row), ())
     }
 
     /// Takes a half-edge's triangle out, as [`Net::collapse_tri`](crate::Net::collapse_tri) does.
@@ -306,8 +308,9 @@ impl<L: Layout> NetMut<'_, L> {
     ///
     /// `Shape`; `Unsound`; `Number` and `Dead` of the half-edge.
     pub fn collapse_tri(&mut self, halfedge: i32) -> Result<(), Refusal> {
-        let told = call!(spoonferret_collapse_tri, self.lend_as_it_is()?, halfedge);
-        Refusal::unless_sound_and_done(told.number, told.row, ())
+        let arrays = self.lend_as_it_is()?;
+        let told = call!(spoonferret_collapse_tri, arrays, halfedge);
+        arrays.unless_done(told.number, Carried::row(told.row), ())
     }
 
     /// Takes out two triangles that lie on one another, as [`Net::remove_if_folded`](crate::Net::remove_if_folded) does.
@@ -316,8 +319,9 @@ impl<L: Layout> NetMut<'_, L> {
     ///
     /// `Shape`; `Unsound`; `Number` and `Dead` of the half-edge.
     pub fn remove_if_folded(&mut self, halfedge: i32) -> Result<(), Refusal> {
-        let told = call!(spoonferret_remove_if_folded, self.lend_as_it_is()?, halfedge);
-        Refusal::unless_sound_and_done(told.number, told.row, ())
+        let arrays = self.lend_as_it_is()?;
+        let told = call!(spoonferret_remove_if_folded, arrays, halfedge);
+        arrays.unless_done(told.number, Carried::row(told.row), ())
     }
 
     /// Joins the net the other way across two half-edges, as [`Net::form_loop`](crate::Net::form_loop) does, with two vertices appended.
@@ -331,7 +335,7 @@ impl<L: Layout> NetMut<'_, L> {
         let room = Room { triangles: 0, vertices: 2 };
         self.growing(work, room, room, false, |arrays, work| {
             let told = spares!(spoonferret_form_loop, arrays, work, first, second);
-            Refusal::unless_sound_and_done(told.number, told.row, InUse { halfedges: used.halfedges, vertices: told.vertices })
+            arrays.unless_done(told.number, Carried::row(told.row), InUse { halfedges: used.halfedges, vertices: told.vertices })
         })
     }
 
@@ -360,7 +364,7 @@ impl<L: Layout> NetMut<'_, L> {
         loop {
             let arrays = self.lend(Room { triangles: 0, vertices })?;
             let told = call!(spoonferret_split_pinched_verts, arrays, work.words.as_mut_ptr(), work.words.len(), work.list.as_mut_ptr(), work.list.len());
-            let said = Refusal::unless_sound_and_done(told.number, told.row, ());
+            let said = arrays.unless_done(told.number, Carried::row(told.row), ());
             if said == Err(Refusal::NoRoom) {
                 let wanted = work.copies(&arrays);
                 if vertices < wanted && wanted <= most {
@@ -387,7 +391,7 @@ impl<L: Layout> NetMut<'_, L> {
         let room = Room { triangles: 2, vertices: 2 };
         self.growing(work, room, room, false, |arrays, work| {
             let told = spares!(spoonferret_dedupe_edge, arrays, work, halfedge);
-            Refusal::unless_sound_and_done(told.number, told.row, InUse { halfedges: told.halfedges, vertices: told.vertices })
+            arrays.unless_done(told.number, Carried::row(told.row), InUse { halfedges: told.halfedges, vertices: told.vertices })
         })
     }
 
@@ -433,18 +437,17 @@ impl<L: Layout> NetMut<'_, L> {
                 arrays.references_length = work.faces.len();
             }
             let told = spares!(spoonferret_collapse_edge, arrays, work, work.list.as_mut_ptr(), work.list.len(), halfedge, first_new_vert, tol, epsilon);
-            if told.number == 8 {
-                return Err(Refusal::Long { squared_length: f64::from_bits(told.squared_length), limit: f64::from_bits(told.limit) });
-            }
-            Refusal::unless_sound_and_done(told.number, told.row, InUse { halfedges: used.halfedges, vertices: told.vertices })
+            let carried = Carried::row(told.row).lengths(told.squared_length, told.limit);
+            arrays.unless_done(told.number, carried, InUse { halfedges: used.halfedges, vertices: told.vertices })
         })
     }
 }
 
 /// check_net, of rows that are borrowed for reading.
 pub(crate) fn check<L: Layout>(net: &Shared<'_, L>) -> Result<(), Refusal> {
-    let told = call!(spoonferret_check_net, net.arrays()?);
-    Refusal::unless_sound_and_done(told.number, told.row, ())
+    let arrays = net.arrays()?;
+    let told = call!(spoonferret_check_net, arrays);
+    arrays.unless_done(told.number, Carried::row(told.row), ())
 }
 
 /// explain_row, of rows that are borrowed for reading.

@@ -1,5 +1,6 @@
 //! Why a call was refused.
 
+use crate::Clause;
 use std::fmt;
 
 /// What a call says when it is not done, with document 01's number in `number()`. Every refusal leaves the net as it was.
@@ -14,6 +15,8 @@ pub enum Refusal {
     Unsound {
         /// the least row that is not in order
         row: usize,
+        /// the first clause of "in order" that it breaks
+        clause: Clause,
     },
     /// 4: a number that names no half-edge in use or no vertex in use, or that has no next.
     Number,
@@ -34,47 +37,84 @@ pub enum Refusal {
     OpenFan,
     /// 10: the owner scan met a pair that does not point back, or an eligible half-edge whose fan is open.
     NoOwners,
+    /// An answer that this crate has no case for. The library that it was made with gives none.
+    Other {
+        /// the answer's number
+        number: u32,
+    },
+}
+
+/// What an answer may carry besides its number.
+#[derive(Clone, Copy)]
+pub(crate) struct Carried {
+    pub row: usize,
+    pub clause: Clause,
+    pub squared_length: f64,
+    pub limit: f64,
+}
+
+impl Carried {
+    pub const NOTHING: Carried = Carried::row(0);
+
+    /// A row alone; which clause it breaks is asked of the arrays.
+    pub const fn row(row: usize) -> Carried {
+        Carried { row, clause: Clause::InOrder, squared_length: 0.0, limit: 0.0 }
+    }
+
+    /// The bits of a squared length and of a limit.
+    pub fn lengths(self, squared_length: u64, limit: u64) -> Carried {
+        Carried { squared_length: f64::from_bits(squared_length), limit: f64::from_bits(limit), ..self }
+    }
+}
+
+/// Each number and its case, with what it carries.
+macro_rules! table {
+    ($($number:literal: $case:ident $({ $($value:ident),* })?),* $(,)?) => {
+        impl Refusal {
+            /// The number of the answer.
+            pub fn number(&self) -> u32 {
+                match self {
+                    $(Refusal::$case { .. } => $number,)*
+                    Refusal::Other { number } => *number,
+                }
+            }
+
+            fn of(number: u32, carried: Carried) -> Refusal {
+                match number {
+                    $($number => Refusal::$case $({ $($value: carried.$value),* })?,)*
+                    _ => Refusal::Other { number },
+                }
+            }
+        }
+    };
+}
+
+table! {
+    1: Shape,
+    2: ShortBuffer,
+    3: Unsound { row, clause },
+    4: Number,
+    5: Dead,
+    6: NoRoom,
+    7: Stopped,
+    8: Long { squared_length, limit },
+    9: OpenFan,
+    10: NoOwners,
 }
 
 impl Refusal {
-    /// The number of the answer.
-    pub fn number(&self) -> u32 {
-        match self {
-            Refusal::Shape => 1,
-            Refusal::ShortBuffer => 2,
-            Refusal::Unsound { .. } => 3,
-            Refusal::Number => 4,
-            Refusal::Dead => 5,
-            Refusal::NoRoom => 6,
-            Refusal::Stopped => 7,
-            Refusal::Long { .. } => 8,
-            Refusal::OpenFan => 9,
-            Refusal::NoOwners => 10,
-        }
-    }
-
-    /// The value where the number is 0, else the refusal of that number; 3 and 8 carry values and have their own way.
+    /// The value where the number is 0, else the refusal of that number, which carries nothing.
     pub(crate) fn unless_done<T>(number: u32, done: T) -> Result<T, Refusal> {
-        Err(match number {
-            0 => return Ok(done),
-            1 => Refusal::Shape,
-            2 => Refusal::ShortBuffer,
-            4 => Refusal::Number,
-            5 => Refusal::Dead,
-            6 => Refusal::NoRoom,
-            7 => Refusal::Stopped,
-            9 => Refusal::OpenFan,
-            10 => Refusal::NoOwners,
-            other => unreachable!("the library gives no answer {other} here"),
-        })
+        Refusal::carrying(number, Carried::NOTHING, done)
     }
 
-    /// As `unless_done`, where 3 can come with the least row that is not in order.
-    pub(crate) fn unless_sound_and_done<T>(number: u32, row: usize, done: T) -> Result<T, Refusal> {
-        if number == 3 {
-            return Err(Refusal::Unsound { row });
+    /// The value where the number is 0, else the refusal of that number with what it carries.
+    pub(crate) fn carrying<T>(number: u32, carried: Carried, done: T) -> Result<T, Refusal> {
+        if number == 0 {
+            Ok(done)
+        } else {
+            Err(Refusal::of(number, carried))
         }
-        Refusal::unless_done(number, done)
     }
 }
 
@@ -87,7 +127,7 @@ impl fmt::Display for Refusal {
                  references or normals are neither 0 nor one a triangle"
             ),
             Refusal::ShortBuffer => write!(f, "short buffer (2): a work buffer, list or spare is too short"),
-            Refusal::Unsound { row } => write!(f, "unsound (3): row {row} is the least row that is not in order"),
+            Refusal::Unsound { row, clause } => write!(f, "unsound (3): row {row} is the least row that is not in order: {clause}"),
             Refusal::Number => write!(f, "number (4): a number that names no half-edge in use or no vertex in use, or that has no next"),
             Refusal::Dead => write!(f, "dead (5): a named half-edge is dead"),
             Refusal::NoRoom => write!(f, "no room (6): the next append would pass a capacity"),
@@ -103,6 +143,7 @@ impl fmt::Display for Refusal {
                 "no owners (10): a pair of 0 or more names no half-edge in use or does not point back, or an eligible half-edge, after \
                  no or more turns, is at a row without pair"
             ),
+            Refusal::Other { number } => write!(f, "refused ({number}): docs/MANUAL.md has a page a number"),
         }
     }
 }

@@ -1,7 +1,7 @@
 //! A net over vectors of other types than the crate's own, and buffers that are kept: the same as `Net` does, bit for bit, and a second call that allocates
 //! nothing.
 
-use spoonferret::{edge_op, layout, Eligible, Net, NetMut, Refusal, Workspace};
+use spoonferret::{edge_op, layout, Clause, Eligible, Net, NetMut, Refusal, Workspace};
 use std::alloc::{GlobalAlloc, Layout, System};
 use std::cell::Cell;
 
@@ -313,7 +313,7 @@ fn the_rusts_own_names() {
     assert_eq!(edge_op::update_vert(&mut net, 3, 0, 1), Err(Refusal::Stopped));
     assert_eq!(edge_op::update_vert(&mut net, 3, 0, 5), Ok(()));
     assert_eq!((net.edges[0].to, net.edges[1].from), (3, 3));
-    assert_eq!(edge_op::update_vert(&mut net, 3, 0, 5), Err(Refusal::Unsound { row: 0 }));
+    assert_eq!(edge_op::update_vert(&mut net, 3, 0, 5), Err(Refusal::Unsound { row: 0, clause: Clause::NotMirrored { partner: 3 } }));
 
     // the triangle in its order, from any of its half-edges; nothing at a dead one
     let mut net = p();

@@ -1,6 +1,6 @@
 //! Each function on the cases that document 01 works out, through the crate's own interface.
 
-use spoonferret::{next_halfedge, short_test, tri_of, Eligible, Halfedge, Net, Reference, Refusal, Vec3};
+use spoonferret::{next_halfedge, short_test, tri_of, Clause, Eligible, Halfedge, Net, Reference, Refusal, Vec3};
 
 /// Two two-sided triangles that meet at vertex 0: document 01's example.
 fn example() -> Net {
@@ -66,7 +66,7 @@ fn check() {
     assert_eq!(net.check(), Err(Refusal::Shape));
     net.num_prop = 0;
     net.halfedges[10].paired_halfedge = 6;
-    assert_eq!(net.check(), Err(Refusal::Unsound { row: 8 }));
+    assert_eq!(net.check(), Err(Refusal::Unsound { row: 8, clause: Clause::NotBack { partner: 10 } }));
 }
 
 #[test]
@@ -121,7 +121,7 @@ fn update() {
     owed.halfedges[0].end_vert = 3;
     owed.halfedges[1].start_vert = 3;
     assert_eq!(net, owed);
-    assert_eq!(net.update_vert(3, 0, 5), Err(Refusal::Unsound { row: 0 }));
+    assert_eq!(net.update_vert(3, 0, 5), Err(Refusal::Unsound { row: 0, clause: Clause::NotMirrored { partner: 3 } }));
     net = before;
     net.halfedges.extend([NONE; 3]);
     assert_eq!(net.update_vert(3, 0, 6), Err(Refusal::Dead));
@@ -142,7 +142,7 @@ fn collapse() {
     owed.halfedges[0].paired_halfedge = 1;
     owed.halfedges[3..].fill(NONE);
     assert_eq!(net, owed);
-    assert_eq!(net.collapse_tri(4), Err(Refusal::Unsound { row: 0 }));
+    assert_eq!(net.collapse_tri(4), Err(Refusal::Unsound { row: 0, clause: Clause::NotMirrored { partner: 1 } }));
     net = p();
     net.halfedges.extend([NONE; 3]);
     assert_eq!(net.collapse_tri(7), Err(Refusal::Dead));
@@ -250,7 +250,7 @@ fn split() {
     assert_eq!(Net::default().split_pinched_verts(), Ok(vec![]));
     net.halfedges[10].end_vert = 0;
     let before = net.clone();
-    assert_eq!(net.split_pinched_verts(), Err(Refusal::Unsound { row: 8 }));
+    assert_eq!(net.split_pinched_verts(), Err(Refusal::Unsound { row: 8, clause: Clause::NotMirrored { partner: 10 } }));
     assert_eq!(net, before);
     // the bound of the vertices leaves no room
     let mut net = example();
@@ -340,7 +340,7 @@ fn dedupe() {
     net.halfedges.extend([NONE; 3]);
     assert_eq!(net.dedupe_edge(12), Err(Refusal::Dead));
     net.halfedges[1].end_vert = 3;
-    assert_eq!(net.dedupe_edge(0), Err(Refusal::Unsound { row: 1 }));
+    assert_eq!(net.dedupe_edge(0), Err(Refusal::Unsound { row: 1, clause: Clause::NotJoined { next: 2 } }));
     net.halfedges.pop();
     assert_eq!(net.dedupe_edge(0), Err(Refusal::Shape));
 }
@@ -398,7 +398,7 @@ fn cleanup() {
     assert_eq!(plain(&net), APART);
     assert_eq!(Net::default().cleanup_topology(), Ok(()));
     net.halfedges[0].end_vert = 2;
-    assert_eq!(net.cleanup_topology(), Err(Refusal::Unsound { row: 0 }));
+    assert_eq!(net.cleanup_topology(), Err(Refusal::Unsound { row: 0, clause: Clause::NotJoined { next: 1 } }));
 }
 
 #[test]
@@ -477,7 +477,50 @@ fn collapse_short() {
     assert_eq!(net.collapse_edge(2, 9, 100.0, 100.0), Err(Refusal::Stopped));
     assert_eq!(net, before);
     net.halfedges[0].end_vert = 2;
-    assert_eq!(net.collapse_edge(2, 9, 100.0, 100.0), Err(Refusal::Unsound { row: 0 }));
+    assert_eq!(net.collapse_edge(2, 9, 100.0, 100.0), Err(Refusal::Unsound { row: 0, clause: Clause::NotJoined { next: 1 } }));
+}
+
+/// What breaks P at row 0, or a row that stands for it, in each clause's way.
+type Damage = fn(&mut Net);
+
+#[test]
+fn refusals_say_the_clause() {
+    let damages: [(Damage, Clause, &str); 8] = [
+        (|net| net.halfedges[0].paired_halfedge = 6, Clause::NoPartner, "names no half-edge"),
+        (|net| net.halfedges[3].paired_halfedge = 1, Clause::NotBack { partner: 3 }, "row 3, has another row as its pair"),
+        (|net| net.halfedges[0].end_vert = 4, Clause::NoVertex, "names no vertex"),
+        (|net| net.halfedges[1].paired_halfedge = -1, Clause::Unpaired { row: 1 }, "row 1 of its triangle has no pair"),
+        (|net| net.halfedges[0].end_vert = 2, Clause::NotJoined { next: 1 }, "its next, row 1, starts"),
+        (|net| net.halfedges[3].start_vert = 2, Clause::NotMirrored { partner: 3 }, "row 3, does not run the opposite way"),
+        (|net| net.halfedges.iter_mut().for_each(|h| (h.start_vert, h.end_vert) = (0, 0)), Clause::StartsAlike, "at the same vertex"),
+        (|net| net.halfedges[0] = NONE, Clause::PartlyDead { row: 1 }, "row 1 of its triangle is not"),
+    ];
+    for (i, (damage, clause, words)) in damages.into_iter().enumerate() {
+        let mut net = p();
+        damage(&mut net);
+        let before = net.clone();
+        let refusal = Refusal::Unsound { row: 0, clause };
+        assert_eq!(clause.number() as usize, i + 1);
+        assert_eq!(net.explain_row(0), Ok(clause));
+        assert!(refusal.to_string().ends_with(&clause.to_string()) && clause.to_string().contains(words), "{refusal}");
+        let said = [
+            ("check", net.check()),
+            ("update_vert", net.update_vert(0, 0, 0)),
+            ("collapse_tri", net.collapse_tri(0)),
+            ("remove_if_folded", net.remove_if_folded(0)),
+            ("form_loop", net.form_loop(0, 0)),
+            ("split_pinched_verts", net.split_pinched_verts().map(|_| ())),
+            ("dedupe_edge", net.dedupe_edge(0)),
+            ("dedupe_edges", net.dedupe_edges()),
+            ("cleanup_topology", net.cleanup_topology()),
+            ("collapse_edge", net.collapse_edge(0, 0, 9.0, 9.0)),
+        ];
+        for (name, said) in said {
+            assert_eq!(said, Err(refusal), "{name}");
+        }
+        assert_eq!(net, before);
+    }
+    assert_eq!(p().explain_row(0).map(|clause| clause.number()), Ok(0));
 }
 
 #[test]
@@ -485,7 +528,7 @@ fn refusals_say_their_number() {
     let all = [
         Refusal::Shape,
         Refusal::ShortBuffer,
-        Refusal::Unsound { row: 4 },
+        Refusal::Unsound { row: 4, clause: Clause::NoPartner },
         Refusal::Number,
         Refusal::Dead,
         Refusal::NoRoom,
