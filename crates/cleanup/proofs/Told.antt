@@ -18,7 +18,7 @@ use Rattle.rows.specs.Triples.{zero-triples, zero-references, over-triples}
 use Rattle.net.specs.declared.Counts.{Counts}
 use Rattle.net.specs.Net.{Net}
 use Rattle.net.specs.Counts.{is-shaped, vertex-capacity-over}
-use Rattle.soundness.specs.Order.{in-order, first-failing}
+use Rattle.rowtests.specs.Order.{in-order, first-failing}
 use Rattle.splitting.specs.Steps.{count, split-rows}
 use Rattle.splitting.specs.Split.{split-sound}
 use Rattle.growth.specs.declared.Limits.{Limits}

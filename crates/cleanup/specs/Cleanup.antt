@@ -14,7 +14,7 @@ use Rattle.net.specs.declared.Counts.{Counts}
 use Rattle.net.specs.Net.{Net}
 use Rattle.net.specs.Counts.{is-shaped}
 use Rattle.soundness.specs.Check.{sound-or}
-use Rattle.soundness.specs.Order.{least-out}
+use Rattle.rowtests.specs.Order.{least-out}
 use Rattle.splitting.specs.Split.{Outcome, split-sound}
 use Rattle.steps.specs.declared.Run.{Run}
 use Rattle.steps.specs.Steps.{middle, running, Going, NoRoom}

@@ -16,7 +16,7 @@ use Rattle.net.specs.declared.Counts.{Counts}
 use Rattle.net.specs.Net.{Net}
 use Rattle.net.specs.Counts.{is-shaped, is-long, spare-holds, halfedge-capacity, vertex-capacity-over}
 use Rattle.soundness.specs.Check.{sound-or}
-use Rattle.soundness.specs.Order.{least-out}
+use Rattle.rowtests.specs.Order.{least-out}
 use Rattle.steps.specs.declared.Run.{Run}
 use Rattle.steps.specs.Steps.{Middle, Stopped, begin, ended, how-said}
 use Rattle.steps.specs.Settle.{settled}

@@ -31,7 +31,7 @@ use Rattle.net.specs.Sound.{start-vertex, end-vertex, partner, InOrder, Live, S
 use Rattle.net.proofs.Shape.{within, shaped-true}
 use Rattle.net.proofs.Sound.{live-paired, live-row, partner-live, next-live}
 use Rattle.soundness.specs.Check.{sound-or}
-use Rattle.soundness.specs.Order.{least-out}
+use Rattle.rowtests.specs.Order.{least-out}
 use Rattle.steps.specs.declared.How.{How}
 use Rattle.steps.specs.declared.How.the-variants as W
 use Rattle.steps.specs.Steps.{Middle, begin, refused, how-said}

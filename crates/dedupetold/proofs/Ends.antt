@@ -19,7 +19,7 @@ use Rattle.net.specs.Net.{Net, net}
 use Rattle.net.specs.Sound.{Sound}
 use Rattle.net.proofs.Shape.{shaped-true}
 use Rattle.soundness.specs.Check.{sound-or, checkNet}
-use Rattle.soundness.specs.Order.{least-out}
+use Rattle.rowtests.specs.Order.{least-out}
 use Rattle.soundness.proofs.Told.{check-sound}
 use Rattle.steps.specs.declared.How.{How}
 use Rattle.steps.specs.declared.How.the-variants as W

@@ -23,8 +23,8 @@ use Rattle.net.specs.Net.{Net}
 use Rattle.net.specs.Counts.{Shaped}
 use Rattle.net.specs.Sound.{partner, start-vertex, end-vertex, Empty, DeadRow, LiveRow, InOrder}
 use Rattle.net.proofs.Shape.{shaped-true}
-use Rattle.soundness.specs.Order.{empty3, apart3, differ, mirrors}
-use Rattle.soundness.proofs.Right.{named-is, is-named-at, empty-yes, is-empty-yes, paired-yes, is-paired-yes, apart-yes, is-apart-yes, dead-yes, is-dead-yes}
+use Rattle.rowtests.specs.Order.{empty3, apart3, differ, mirrors}
+use Rattle.rowtests.proofs.Right.{named-is, is-named-at, empty-yes, is-empty-yes, paired-yes, is-paired-yes, apart-yes, is-apart-yes, dead-yes, is-dead-yes}
 use Rattle.explain.specs.declared.ExplainRow.{ExplainRow}
 use Rattle.explain.specs.declared.ExplainRow.the-variants as E
 use Rattle.explain.specs.Explain.{clause, explainSaid, triangle-clause, partner-clause, row-clause, explainRow}

@@ -16,7 +16,7 @@ use Rattle.rows.specs.Halfedges.{startOf, endOf, pairOf, is-empty, is-paired, l
 use Rattle.net.specs.declared.Counts.{Counts}
 use Rattle.net.specs.Net.{Net}
 use Rattle.net.specs.Counts.{is-shaped}
-use Rattle.soundness.specs.Order.{empty3, apart3, mirrors}
+use Rattle.rowtests.specs.Order.{empty3, apart3, mirrors}
 use Rattle.explain.specs.declared.ExplainRow.{ExplainRow}
 use Rattle.explain.specs.declared.ExplainRow.the-variants as E
 

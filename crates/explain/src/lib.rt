@@ -7,7 +7,7 @@ ghost use Rattle.laws.specs.Integers.{eqZ};
 ghost use Rattle.numbers.specs.Numbers.{halfedgeNumber};
 ghost use Rattle.rows.specs.Halfedges.{pairOf, lent-halfedges};
 ghost use Rattle.net.specs.Net.{net};
-ghost use Rattle.soundness.specs.Order.{apart3};
+ghost use Rattle.rowtests.specs.Order.{apart3};
 ghost use Rattle.steps.specs.Steps.{InUse};
 ghost use Rattle.explain.specs.Explain.{Three, explainSaid, triangle-clause, partner-clause, row-clause, explainRow};
 use net::Counts;

@@ -10,7 +10,7 @@ use Rattle.rows.specs.Halfedges.{column, set-column}
 use Rattle.rows.specs.Triples.{triple, put-triple}
 use Rattle.net.specs.Counts.{is-shaped, triangle-capacity-over, vertex-capacity-over, property-capacity-over}
 use Rattle.soundness.specs.Check.{checkNet}
-use Rattle.soundness.specs.Order.{live as is-live, in-order, first-failing}
+use Rattle.rowtests.specs.Order.{live as is-live, in-order, first-failing}
 use Rattle.pairing.specs.Pairing.{paired, pairUp}
 use Rattle.steps.specs.Steps.{Middle, begin, Stopped, ended}
 use Rattle.walks.specs.Walk.{onward, moved, walk, update, reaches}

@@ -12,7 +12,7 @@ use Rattle.floats.specs.declared.Vec2.{Vec2}
 use Rattle.floats.specs.Vectors.{minus2, dot2}
 use Rattle.rows.specs.Halfedges.{column, set-column}
 use Rattle.net.specs.Counts.{is-shaped, triangle-capacity-over, vertex-capacity-over, property-capacity-over}
-use Rattle.soundness.specs.Order.{live as is-live, in-order, first-failing}
+use Rattle.rowtests.specs.Order.{live as is-live, in-order, first-failing}
 use Rattle.pairing.specs.Pairing.{paired, pairUp}
 use Rattle.steps.specs.Steps.{begin}
 use Rattle.walks.specs.Walk.{onward, moved, walk, update, reaches}

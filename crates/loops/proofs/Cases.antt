@@ -9,7 +9,7 @@ use Rattle.numbers.specs.Next.{next}
 use Rattle.rows.specs.Halfedges.{column, set-column, over-rows}
 use Rattle.rows.specs.Triples.{triple, put-triple, over-triples, zero-triples}
 use Rattle.net.specs.Counts.{is-shaped, triangle-capacity-over, vertex-capacity-over, property-capacity-over}
-use Rattle.soundness.specs.Order.{live as is-live, in-order, first-failing}
+use Rattle.rowtests.specs.Order.{live as is-live, in-order, first-failing}
 use Rattle.pairing.specs.Pairing.{paired}
 use Rattle.walks.specs.Walk.{onward, moved, walk, update}
 use Rattle.folds.specs.Folds.{lose, lose-folded, has-pair, joined, join, cleared, clear, take-out, fold-at, fold}

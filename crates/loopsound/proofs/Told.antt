@@ -25,7 +25,7 @@ use Rattle.net.specs.Sound.{partner, Live, Sound}
 use Rattle.net.proofs.Shape.{capacities, within, shaped-true, shaped-with}
 use Rattle.net.proofs.Sound.{live-paired, paired-live}
 use Rattle.soundness.specs.Check.{sound-or, checkNet}
-use Rattle.soundness.specs.Order.{least-out}
+use Rattle.rowtests.specs.Order.{least-out}
 use Rattle.soundness.proofs.Told.{check-sound}
 use Rattle.steps.specs.declared.How.{How}
 use Rattle.steps.specs.declared.How.the-variants as W

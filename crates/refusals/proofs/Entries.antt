@@ -10,7 +10,7 @@ use Rattle.net.specs.declared.Counts.{Counts}
 use Rattle.net.specs.Net.{Net}
 use Rattle.net.specs.Counts.{is-shaped}
 use Rattle.soundness.specs.Check.{sound-or, checkNet}
-use Rattle.soundness.specs.Order.{least-out}
+use Rattle.rowtests.specs.Order.{least-out}
 use Rattle.steps.specs.Entries.{past}
 use Rattle.refusals.specs.Refusals.{nothing-asked, of-sound, of-any, Refusals}
 use Rattle.refusals.proofs.Law.{Tells, checked, Begins, refusals, in-turn}

@@ -15,7 +15,7 @@ use Rattle.net.specs.Net.{Net}
 use Rattle.net.specs.Counts.{Shaped, is-shaped}
 use Rattle.net.proofs.Shape.{shaped-yes, shaped-true}
 use Rattle.net.proofs.Sound.{live-paired, paired-live}
-use Rattle.soundness.specs.Order.{least-out}
+use Rattle.rowtests.specs.Order.{least-out}
 use Rattle.soundness.proofs.Told.{least-unique, nothing-out, least-is}
 use Rattle.refusals.specs.Refusals.{nothing-asked, of-sound, of-any, Names, NamesLive}
 use Rattle.refusals.proofs.Law.{Tells, TellsLeast}

@@ -20,7 +20,7 @@ use Rattle.net.specs.declared.Counts.{Counts}
 use Rattle.net.specs.Net.{Net}
 use Rattle.net.specs.Counts.{triangle-capacity-over, vertex-capacity-over, property-capacity-over, vertex-capacity, Shaped}
 use Rattle.net.specs.Sound.{Sound}
-use Rattle.soundness.specs.Order.{least-out}
+use Rattle.rowtests.specs.Order.{least-out}
 use Rattle.soundness.proofs.Told.{nothing-out, least-is}
 use Rattle.splitting.specs.Split.{Outcome, done-with, splitPinched}
 use Rattle.splitsound.specs.Demand.{Demand3}

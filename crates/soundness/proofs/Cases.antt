@@ -12,7 +12,7 @@ use Rattle.net.specs.declared.Counts.{Counts}
 use Rattle.net.specs.Net.{Net, net}
 use Rattle.net.specs.Counts.{is-shaped, triangle-capacity-over, vertex-capacity-over, property-capacity-over}
 use Rattle.example.specs.Example.{row, live, dead, P-rows, rows, P-positions, positions, counts, bare}
-use Rattle.soundness.specs.Order.{live as is-live, in-order, first-failing}
+use Rattle.rowtests.specs.Order.{live as is-live, in-order, first-failing}
 use Rattle.soundness.specs.Check.{checkNet}
 
 pub record Case : Type 0 where

@@ -21,9 +21,9 @@ use Rattle.net.proofs.Shape.{shaped-yes, shaped-no}
 use Rattle.soundness.specs.declared.Checked.{Checked}
 use Rattle.soundness.specs.declared.Checked.the-variants as C
 use Rattle.soundness.specs.Check.{checkSaid, checkNet}
-use Rattle.soundness.specs.Order.{in-order, least-out}
-use Rattle.soundness.proofs.Right.{in-order-yes, out-of-order}
-use Rattle.soundness.proofs.Search.{none-fails, found-fails}
+use Rattle.rowtests.specs.Order.{in-order, least-out}
+use Rattle.rowtests.proofs.Right.{in-order-yes, out-of-order}
+use Rattle.rowtests.proofs.Search.{none-fails, found-fails}
 
 -- there is one least row out of order
 pub least-unique : (H N : ℕ) (rows : List ℤ) (g h : ℕ) → LeastOut H N rows g → LeastOut H N rows h → g ≡ h

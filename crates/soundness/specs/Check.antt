@@ -8,7 +8,7 @@ use Rattle.net.specs.Net.{Net}
 use Rattle.net.specs.Counts.{is-shaped}
 use Rattle.soundness.specs.declared.Checked.{Checked}
 use Rattle.soundness.specs.declared.Checked.the-variants as C
-use Rattle.soundness.specs.Order.{least-out}
+use Rattle.rowtests.specs.Order.{least-out}
 
 abbrev pub checkSaid : Checked → Said
 checkSaid C.Sound = done []

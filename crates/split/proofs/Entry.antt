@@ -13,7 +13,7 @@ use Rattle.net.specs.Net.{Net}
 use Rattle.net.specs.Counts.{is-shaped, is-long}
 use Rattle.net.specs.Sound.{Sound}
 use Rattle.net.proofs.Shape.{shaped-yes}
-use Rattle.soundness.specs.Order.{least-out}
+use Rattle.rowtests.specs.Order.{least-out}
 use Rattle.soundness.proofs.Told.{nothing-out}
 use Rattle.splitting.specs.Split.{outcome, split-sound, buffers-long, splitPinched}
 

@@ -8,7 +8,7 @@ use Rattle.numbers.specs.Next.{next}
 use Rattle.rows.specs.Halfedges.{column, set-column, append-row}
 use Rattle.rows.specs.Triples.{triple, put-triple, zero-triples}
 use Rattle.net.specs.Counts.{is-shaped, triangle-capacity-over, vertex-capacity-over, property-capacity-over}
-use Rattle.soundness.specs.Order.{live, in-order, first-failing}
+use Rattle.rowtests.specs.Order.{live, in-order, first-failing}
 use Rattle.turning.specs.Walk.{walk, walk-end}
 use Rattle.splitting.specs.Steps.{flag-walk, relabel-walk, count-step as tally-step, count as tally, split-step, split-rows}
 use Rattle.splitting.specs.Split.{split-sound, splitPinched}

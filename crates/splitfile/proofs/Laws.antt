@@ -18,7 +18,7 @@ use Rattle.net.specs.Net.{Net, net}
 use Rattle.net.specs.Counts.{is-shaped, most-vertices}
 use Rattle.net.specs.Sound.{Live}
 use Rattle.net.proofs.Shape.{capacities}
-use Rattle.soundness.specs.Order.{least-out}
+use Rattle.rowtests.specs.Order.{least-out}
 use Rattle.turning.proofs.Count.{count-le}
 use Rattle.splitting.specs.Split.{Outcome as Parted, outcome, buffers-long, splitPinched}
 use Rattle.splitting.specs.Told.{IsDone, IsFull}

@@ -14,7 +14,7 @@ use Rattle.net.specs.declared.Counts.{Counts}
 use Rattle.net.specs.Net.{Net}
 use Rattle.net.specs.Sound.{Live, Sound}
 use Rattle.net.proofs.Shape.{shaped-true, capacity-same}
-use Rattle.soundness.specs.Order.{least-out}
+use Rattle.rowtests.specs.Order.{least-out}
 use Rattle.soundness.proofs.Told.{least-is}
 use Rattle.turning.proofs.Count.{count-le}
 use Rattle.splitting.specs.Split.{Outcome, split-sound, splitPinched}

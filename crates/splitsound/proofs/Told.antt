@@ -21,7 +21,7 @@ use Rattle.net.specs.Counts.{vertex-capacity}
 use Rattle.net.specs.Sound.{start-vertex, Live, Sound}
 use Rattle.net.proofs.Sound.{live-dec}
 use Rattle.net.proofs.Shape.{shaped-true}
-use Rattle.soundness.specs.Order.{least-out}
+use Rattle.rowtests.specs.Order.{least-out}
 use Rattle.soundness.proofs.Told.{least-is}
 use Rattle.turning.specs.Fan.{Count}
 use Rattle.turning.proofs.Count.{count-le, count-total, count-unique}

@@ -11,7 +11,7 @@ use Rattle.rows.specs.Halfedges.{column, set-column}
 use Rattle.rows.specs.Triples.{triple, put-triple, zero-triples}
 use Rattle.net.specs.Counts.{is-shaped, triangle-capacity-over, vertex-capacity-over, property-capacity-over}
 use Rattle.example.specs.Example.{live, dead, P-rows, rows, P-positions, positions, counts, bare}
-use Rattle.soundness.specs.Order.{live as is-live, in-order, first-failing}
+use Rattle.rowtests.specs.Order.{live as is-live, in-order, first-failing}
 use Rattle.turning.specs.Walk.{walk, walk-end}
 use Rattle.splitting.specs.Steps.{flag-walk, relabel-walk, count-step, count, split-step, split-rows}
 use Rattle.splitting.specs.Split.{Outcome, outcome, done-with, split-sound, splitPinched}

@@ -25,7 +25,7 @@ use Rattle.net.specs.Counts.{is-shaped, is-long, vertex-capacity, vertex-capaci
 use Rattle.net.specs.Sound.{start-vertex, turn, Live, Sound}
 use Rattle.net.proofs.Sound.{live-dec}
 use Rattle.net.proofs.Shape.{shaped-true, capacities, within}
-use Rattle.soundness.specs.Order.{least-out}
+use Rattle.rowtests.specs.Order.{least-out}
 use Rattle.soundness.proofs.Told.{least-is}
 use Rattle.turning.specs.Fan.{Lead, IsStart, Count}
 use Rattle.turning.proofs.Count.{count-le, count-total}

@@ -12,7 +12,7 @@ use Rattle.rows.specs.Triples.{zero-triples}
 use Rattle.net.specs.declared.Counts.{Counts}
 use Rattle.net.specs.Net.{Net}
 use Rattle.net.specs.Counts.{is-shaped, is-long, vertex-capacity-over}
-use Rattle.soundness.specs.Order.{least-out}
+use Rattle.rowtests.specs.Order.{least-out}
 use Rattle.splitting.specs.Steps.{Tallied, tallied, unclosed, count, State, state, split-rows}
 
 -- what is said, and what the lent arrays hold then

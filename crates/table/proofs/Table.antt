@@ -23,7 +23,7 @@ use Rattle.folds.specs.Folds.{lose, lose-folded, has-pair, joined, join, cleare
 use Rattle.folds.specs.RemoveIfFolded.{Out, foldNamed, removeIfFolded}
 use Rattle.pairing.specs.Pairing.{paired}
 use Rattle.soundness.specs.Check.{checkNet}
-use Rattle.soundness.specs.Order.{live, in-order, first-failing}
+use Rattle.rowtests.specs.Order.{live, in-order, first-failing}
 use Rattle.splitting.specs.Split.{Outcome, split-sound, splitPinched}
 use Rattle.splitting.specs.Steps.{flag-walk, relabel-walk, count-step, count, split-step, split-rows}
 use Rattle.triangles.specs.Triangles.{emptied, collapsed, collapse}

@@ -8,7 +8,7 @@ use Rattle.numbers.specs.Next.{next}
 use Rattle.rows.specs.Halfedges.{column, set-column}
 use Rattle.net.specs.Counts.{is-shaped, triangle-capacity-over, vertex-capacity-over, property-capacity-over}
 use Rattle.soundness.specs.Check.{checkNet}
-use Rattle.soundness.specs.Order.{live as is-live, in-order, first-failing}
+use Rattle.rowtests.specs.Order.{live as is-live, in-order, first-failing}
 use Rattle.pairing.specs.Pairing.{paired}
 use Rattle.steps.specs.declared.How.{How}
 use Rattle.steps.specs.Steps.{begin, Going, NoRoom, Stopped, ended}

@@ -9,7 +9,7 @@ use Rattle.numbers.specs.Next.{next}
 use Rattle.rows.specs.Halfedges.{column, set-column}
 use Rattle.net.specs.Counts.{is-shaped, triangle-capacity-over, vertex-capacity-over, property-capacity-over}
 use Rattle.soundness.specs.Check.{checkNet}
-use Rattle.soundness.specs.Order.{live as is-live, in-order, first-failing}
+use Rattle.rowtests.specs.Order.{live as is-live, in-order, first-failing}
 use Rattle.example.specs.Example.{live, dead as gone, P-rows, P-positions, counts, bare}
 use Rattle.walks.specs.Walk.{onward, moved, reaches, walk}
 use Rattle.walks.specs.UpdateVert.{updateAt, updateNamed, updateVert}

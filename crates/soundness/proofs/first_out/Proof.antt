@@ -4,8 +4,8 @@ use Prim.Native.Nat.{_%_, _-_, _≤_}
 use native.Mathlib.Nat.{sub-zero}
 use native.Mathlib.Omega.{arith}
 use borrow.Author.Needs.{needs}
-use Rattle.soundness.specs.Order.{in-order, first-failing, least-out}
-use Rattle.soundness.proofs.Search.{goes-on, finds, ends}
+use Rattle.rowtests.specs.Order.{in-order, first-failing, least-out}
+use Rattle.rowtests.proofs.Search.{goes-on, finds, ends}
 use Rattle.soundness.proofs.first_out.Statement.{statement}
 use Rattle.soundness.proofs.first_out.Tie as tie
 
