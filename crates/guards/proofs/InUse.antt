@@ -17,8 +17,8 @@ use Rattle.walks.specs.Walk.{onward, moved, walk, update, reaches}
 use Rattle.walks.specs.UpdateVert.{updateAt, updateNamed, updateVert}
 use Rattle.triangles.specs.Triangles.{emptied, collapsed, collapse}
 use Rattle.folds.specs.Folds.{lose, lose-folded, has-pair, joined, join, cleared, clear, take-out, fold-at, fold}
-use Rattle.owners.specs.declared.Eligible.the-variants as E
-use Rattle.owners.specs.Tests.{all-below, those-below, eligible, points-back, closes, owns, has-owners, owners}
+use Rattle.ownertests.specs.declared.Eligible.the-variants as E
+use Rattle.ownertests.specs.Tests.{all-below, those-below, eligible, points-back, closes, owns, has-owners, owners}
 use Rattle.owners.specs.Scan.{scan, orbitOwners}
 use Rattle.example.specs.Example.{live, dead as gone, P-rows, P-positions, counts, bare}
 

@@ -10,9 +10,9 @@ use Rattle.numbers.specs.Next.{next}
 use Rattle.rows.specs.Halfedges.{column}
 use Rattle.net.specs.Counts.{is-shaped, triangle-capacity-over, vertex-capacity-over, property-capacity-over}
 use Rattle.example.specs.Example.{row, live, dead, rows, positions, counts, bare}
-use Rattle.owners.specs.declared.Eligible.{Eligible}
-use Rattle.owners.specs.declared.Eligible.the-variants as E
-use Rattle.owners.specs.Tests.{all-below, those-below, eligible, points-back, closes, owns, has-owners, owners}
+use Rattle.ownertests.specs.declared.Eligible.{Eligible}
+use Rattle.ownertests.specs.declared.Eligible.the-variants as E
+use Rattle.ownertests.specs.Tests.{all-below, those-below, eligible, points-back, closes, owns, has-owners, owners}
 use Rattle.owners.specs.Scan.{Outcome, outcome, scan, orbitOwners}
 
 pub record Case : Type 0 where

@@ -1,10 +1,4 @@
-pub mod Below
-pub mod Points
-pub mod Fan
-pub mod Leaving
-pub mod Walking
-pub mod Scanning
-pub mod Right
+pub mod Listing
 pub mod Found
 pub mod Told
 pub mod Cases

@@ -25,16 +25,17 @@ use Rattle.turning.specs.Fan.{Reach, Count}
 use Rattle.turning.proofs.Least.{Least, None, least}
 use Rattle.turning.proofs.Occ.{count-length}
 use Rattle.turning.proofs.Orbit.{reach-refl, reach-trans, reach-dec}
-use Rattle.owners.specs.declared.Eligible.{Eligible}
+use Rattle.ownertests.specs.declared.Eligible.{Eligible}
 use Rattle.owners.specs.declared.Owners.{Owners}
 use Rattle.owners.specs.declared.Owners.the-variants as O
-use Rattle.owners.specs.Words.{IsEligible, NoOwners, Owner, IsList}
-use Rattle.owners.specs.Tests.{eligible, owns, has-owners, owners}
-use Rattle.owners.specs.Scan.{Outcome, outcome, listed, scan, buffers-long, orbitOwners, ownersSaid, InUse}
+use Rattle.ownertests.specs.Words.{IsEligible, NoOwners, Owner, IsList}
+use Rattle.ownertests.specs.Tests.{eligible, owns, has-owners, owners}
+use Rattle.ownertests.specs.Needs.{InUse}
+use Rattle.owners.specs.Scan.{Outcome, outcome, listed, scan, buffers-long, orbitOwners, ownersSaid}
 use Rattle.owners.specs.Promise.{IsDone}
-use Rattle.owners.proofs.Below.{those-rise, those-once, those-only}
-use Rattle.owners.proofs.Fan.{Closed, fans}
-use Rattle.owners.proofs.Right.{eligible-yes, eligible-true, none-words, words-none, all-back, eligible-closed, owns-owner, owner-owns}
+use Rattle.owners.proofs.Listing.{those-rise, those-once, those-only}
+use Rattle.ownertests.proofs.Fan.{Closed, fans}
+use Rattle.ownertests.proofs.Right.{eligible-yes, eligible-true, none-words, words-none, all-back, eligible-closed, owns-owner, owner-owns}
 
 -- the work buffer and the list have an entry for each half-edge
 abbrev pub Long : ℕ → List ℕ → List ℕ → Type 0

@@ -10,8 +10,8 @@ use Rattle.net.specs.declared.Counts.{Counts}
 use Rattle.net.specs.Net.{Net}
 use Rattle.net.specs.Sound.{turn}
 use Rattle.turning.specs.Fan.{Reach, Count}
-use Rattle.owners.specs.declared.Eligible.{Eligible}
-use Rattle.owners.specs.Words.{IsEligible, Owner, IsList}
+use Rattle.ownertests.specs.declared.Eligible.{Eligible}
+use Rattle.ownertests.specs.Words.{IsEligible, Owner, IsList}
 use Rattle.owners.specs.Scan.{Outcome}
 
 -- answer 0, with the count

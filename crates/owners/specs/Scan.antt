@@ -1,23 +1,18 @@
 -- The entry orbit_owners for every input: what it says, and the work buffer and the list afterwards.
 use mathlib.Core.Bool.{Bool, cond, _&&_}
 use mathlib.Core.List.{List, [], _∷_, _++_}
-use mathlib.Core.Path.{_≡_}
-use Prim.Native.Nat.{ℕ, _%_, _≤_, _<_}
+use Prim.Native.Nat.{ℕ}
 use lib.IntN.{ℤ, pos}
 use lib.ListN.{length, drop}
 use Rattle.answers.specs.Answers.{Said, whole, done, shape, short-buffer, no-owners}
 use Rattle.laws.specs.Stretches.{cleared}
-use Rattle.numbers.specs.Next.{most-halfedges}
-use Rattle.rows.specs.Halfedges.{lent-halfedges}
 use Rattle.net.specs.declared.Counts.{Counts}
 use Rattle.net.specs.Net.{Net}
 use Rattle.net.specs.Counts.{is-shaped, is-long}
-use Rattle.net.specs.Sound.{Paired}
-use Rattle.owners.specs.declared.Eligible.{Eligible}
+use Rattle.ownertests.specs.declared.Eligible.{Eligible}
 use Rattle.owners.specs.declared.Owners.{Owners}
 use Rattle.owners.specs.declared.Owners.the-variants as O
-use Rattle.owners.specs.Words.{PointsBack}
-use Rattle.owners.specs.Tests.{has-owners, owners}
+use Rattle.ownertests.specs.Tests.{has-owners, owners}
 
 -- what is said, and what the two lent lists hold then
 pub record Outcome : Type 0 where
@@ -54,14 +49,3 @@ ownersSaid (O.Done count) = done (whole (pos count) ∷ [])
 ownersSaid O.Shape = shape
 ownersSaid O.ShortBuffer = short-buffer
 ownersSaid O.NoOwners = no-owners
-
--- what the scan needs of the rows in use: they are there, in thirds
-pub record InUse (H : ℕ) (rows : List ℤ) : Type 0 where
-  pub thirds : H % 3 ≡ 0
-  pub lent : H ≤ lent-halfedges rows
-  pub few : H ≤ most-halfedges
-
--- besides, every pair ≥ 0 is in 0..H and points back
-pub record Back (H : ℕ) (rows : List ℤ) : Type 0 where
-  pub in-use : InUse H rows
-  pub back : (h : ℕ) → h < H → Paired rows h → PointsBack H rows h

@@ -28,8 +28,8 @@ use Rattle.triangles.specs.CollapseTri.{collapseNamed, collapseTri}
 use Rattle.folds.specs.RemoveIfFolded.{foldNamed, removeIfFolded}
 use Rattle.loops.specs.Loops.{loop-at}
 use Rattle.loops.specs.FormLoop.{Left, left, formAt, formNamed, formLoop}
-use Rattle.owners.specs.declared.Eligible.{Eligible}
-use Rattle.owners.specs.Tests.{has-owners}
+use Rattle.ownertests.specs.declared.Eligible.{Eligible}
+use Rattle.ownertests.specs.Tests.{has-owners}
 use Rattle.owners.specs.Scan.{scan, orbitOwners}
 use Rattle.owners.specs.Scan as O
 use Rattle.splitting.specs.Steps.{Tallied, tallied, unclosed, count}

@@ -18,8 +18,8 @@ use Rattle.told.specs.declared.RowAnswer.{RowAnswer}
 use Rattle.told.specs.declared.SplitAnswer.{SplitAnswer}
 use Rattle.told.specs.declared.OwnersAnswer.{OwnersAnswer}
 use Rattle.told.specs.declared.LoopAnswer.{LoopAnswer}
-use Rattle.owners.specs.declared.Eligible.{Eligible}
-use Rattle.owners.specs.declared.Eligible.the-variants as E
+use Rattle.ownertests.specs.declared.Eligible.{Eligible}
+use Rattle.ownertests.specs.declared.Eligible.the-variants as E
 
 abbrev pub counts-of : Used → Counts
 counts-of u =

@@ -5,7 +5,7 @@ use native.Mathlib.Omega.{arith}
 use borrow.Author.Tests.{eq-eqb, ne-eqb}
 use lib.Dec.{eqb}
 use lib.ListN.{getD}
-use Rattle.owners.proofs.Below.{Listing, listing-begins, listing-fits, listing-hit, listing-miss, listing-done}
+use Rattle.owners.proofs.Listing.{Listing, listing-begins, listing-fits, listing-hit, listing-miss, listing-done}
 use Rattle.owners.proofs.list_owners.Statement.{statement}
 use Rattle.owners.proofs.list_owners.Tie as tie
 

@@ -1,0 +1,4 @@
+pub mod Leaving
+pub mod Walking
+pub mod Scanning
+pub mod Having
