@@ -29,7 +29,7 @@ counted (float f) = 0
 abbrev pub done : List Value → Said
 done values = record { number = 0; values = values }
 
--- 1: a count is no multiple of 3, above its capacity or bound, or neither 0 nor the triangles
+-- 1: the half-edges are no multiple of 3, a count is above its capacity or bound, or references or normals are neither 0 nor the triangles
 abbrev pub shape : Said
 shape = record { number = 1; values = [] }
 

@@ -22,10 +22,10 @@ use Rattle.settling.specs.Settling.{limits-of, begun}
 use Rattle.settling.proofs.Entry.{begun-fits}
 use Rattle.dedupe.specs.Dedupe.{dedupe-at}
 use Rattle.rounds.specs.Rounds.{rounds}
-use Rattle.dedupesound.specs.Grown.{with-growth}
+use Rattle.net.specs.Grown.{with-growth}
 use Rattle.dedupesound.specs.Deduped.{Deduped}
 use Rattle.dedupesound.specs.Clean.{NoDuplicates}
-use Rattle.dedupesound.proofs.Shape.{shaped-grown}
+use Rattle.net.proofs.Grown.{shaped-grown}
 use Rattle.dedupesound.proofs.Steps.{Went, OutWith}
 use Rattle.dedupesound.proofs.Dedupes.{dedupe-left}
 use Rattle.dedupesound.proofs.Cleans as C

@@ -29,7 +29,7 @@ use Rattle.growth.specs.Growth.{Growing, growing, rows-of, halted, settled}
 use Rattle.settling.specs.Settling.{limits-of, grown-said}
 use Rattle.settling.proofs.Kept.{Grew}
 use Rattle.refusals.specs.Refusals.{Early}
-use Rattle.dedupesound.specs.Grown.{faces-for}
+use Rattle.net.specs.Grown.{faces-for}
 use Rattle.dedupesound.proofs.Sounds.{SoundAfter, at-entry}
 use Rattle.dedupetold.specs.Told.{IsDone, IsFull, Ended, is-done, is-full, in-use}
 

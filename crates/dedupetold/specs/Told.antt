@@ -13,7 +13,7 @@ use Rattle.net.specs.Counts.{halfedge-capacity, vertex-capacity}
 use Rattle.net.specs.Sound.{Sound}
 use Rattle.growth.specs.Growth.{Growing}
 use Rattle.settling.specs.Settling.{limits-of, begun}
-use Rattle.dedupesound.specs.Grown.{faces-for, with-growth}
+use Rattle.net.specs.Grown.{faces-for, with-growth}
 use Rattle.dedupesound.specs.Deduped.{Deduped}
 
 -- 0: H half-edges and N vertices are in use, and the net is sound with so many

@@ -12,7 +12,7 @@ use lib.Dec.{eqb}
 use lib.IntN.{ℤ}
 use lib.ListN.{length, getD, set, take, drop, length-set}
 use lib.Seq.{getD-set-same, getD-set-other, drop-set-lt}
-use Rattle.laws.proofs.Tests.{by-test}
+use Rattle.laws.proofs.Tests.{by-test, or-assoc, or-comm}
 use Rattle.numbers.specs.Numbers.{Named, at, nothing, names, named-or}
 use Rattle.numbers.specs.Next.{next}
 use Rattle.numbers.proofs.Names.{names-below}
@@ -26,16 +26,6 @@ use Rattle.duplicates.proofs.Entries.{push-append, pushed}
 abbrev pub Below : ℕ → List ℕ → Type 0
 Below H [] = _≡_ {A = ℕ} 0 0
 Below H (x ∷ xs) = (x < H) × Below H xs
-
-pub or-assoc : (a b c : Bool) → (a || b) || c ≡ a || (b || c)
-or-assoc true b c = refl
-or-assoc false b c = refl
-
-pub or-comm : (a b : Bool) → a || b ≡ b || a
-or-comm true true = refl
-or-comm true false = refl
-or-comm false true = refl
-or-comm false false = refl
 
 in-append : (k : ℕ) (xs ys : List ℕ) → is-in k (xs ++ ys) ≡ is-in k xs || is-in k ys
 unfolding is-in

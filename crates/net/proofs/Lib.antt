@@ -1,3 +1,4 @@
 pub mod Shape
 pub mod Sound
 pub mod Emptied
+pub mod Grown

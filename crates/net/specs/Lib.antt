@@ -1,3 +1,4 @@
 pub mod Net
 pub mod Counts
 pub mod Sound
+pub mod Grown

@@ -1,9 +1,11 @@
 -- The laws of a half-edge row's columns, each over the column: what a write, an append, a part, a copy and a clearing leave
 -- in every column of every row. Callers cite these, and never how wide a row is.
 use mathlib.Core.Path.{_≡_, refl, sym, ap, _∙_}
+use mathlib.Core.Bool.{cond}
 use mathlib.Core.List.{List, [], _∷_}
 use Prim.Native.Nat.{ℕ, _+_, _-_, _*_, _<_, _≤_}
 use native.Mathlib.Omega.{arith}
+use lib.Dec.{eqb}
 use lib.IntN.{ℤ, pos}
 use lib.ListN.{length, getD, set, take, drop, length-set, length-drop, List·getD-append}
 use lib.Seq.{getD-set-same, getD-set-other, getD-drop, drop-set-lt, getD-take, length-take-le}
@@ -16,6 +18,19 @@ offset-in start = omega arith
 offset-in end = omega arith
 offset-in pair = omega arith
 offset-in prop = omega arith
+
+-- columns that differ stand at different places of a row
+abbrev of-offset : ℕ → Column
+of-offset k = cond (eqb k 0) start (cond (eqb k 1) end (cond (eqb k 2) pair prop))
+
+offset-back : (c : Column) → of-offset (offset c) ≡ c
+offset-back start = refl
+offset-back end = refl
+offset-back pair = refl
+offset-back prop = refl
+
+pub columns-apart : (c d : Column) → (c ≡ d → ⊥) → offset c ≡ offset d → ⊥
+columns-apart c d n e = n (sym (offset-back c) ∙ ap of-offset e ∙ offset-back d)
 
 -- a write is read back; other columns and other rows are as they were; no row comes or goes
 pub column-written : (c : Column) (h : ℕ) (v : ℤ) (l : List ℤ) → h < lent-halfedges l → column c (set-column c h v l) h ≡ v

@@ -23,7 +23,7 @@ use Rattle.splitting.specs.Told.{IsDone, IsFull}
 use Rattle.splitting.proofs.Told.{split-told}
 use Rattle.split.proofs.Entry.{said-sound}
 use Rattle.splitkept.specs.Kept.{FreeKept}
-use Rattle.splitkept.proofs.Rows.{rows-by-columns, triples-by-rows}
+use Rattle.rows.proofs.Agree.{rows-by-columns, triples-by-rows}
 
 module _ (c : Counts) (n : Net) (work visit : List ℕ) (sound : Sound c n) (work-long : c .halfedges + c .vertices ≤ length work) (visit-long : c .halfedges ≤ length visit) where
   abbrev o : Outcome

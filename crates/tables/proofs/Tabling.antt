@@ -11,7 +11,7 @@ use lib.Dec.{eqb, leb}
 use lib.IntN.{ℤ}
 use lib.ListN.{length, getD, set, drop, length-set}
 use lib.Seq.{drop-set-lt}
-use Rattle.laws.proofs.Tests.{by-test, not-both, and2, or-cases, or-left, or-right}
+use Rattle.laws.proofs.Tests.{by-test, not-both, and2, or-cases, or-left, or-right, or-assoc, or-comm}
 use Rattle.numbers.specs.Numbers.{Named, at, nothing, names, is-named}
 use Rattle.numbers.specs.Next.{most-halfedges}
 use Rattle.numbers.proofs.Names.{at-inj, names-below}
@@ -20,7 +20,7 @@ use Rattle.searches.specs.Duplicates.{fan, ends-alike, is-duplicate, is-in}
 use Rattle.ordering.specs.Order.{walked-bit, entry-limit, see, place, is-walked, entry}
 use Rattle.ordering.proofs.Words.{bit, see-bit, see-entry, see-other, place-bit, place-entry, place-other}
 use Rattle.duplicates.specs.Scan.{Entries, entries, push-all, picked, Scan, scan}
-use Rattle.duplicates.proofs.Scans.{Below, fan-in, or-assoc, or-comm, Scanning, scanning-begins, scanning-passed, scanning-walked}
+use Rattle.duplicates.proofs.Scans.{Below, fan-in, Scanning, scanning-begins, scanning-passed, scanning-walked}
 use Rattle.tables.specs.Table.{Table, table, lesser, enter-at, enter, enter-all, is-over, clear-at, clear-all, is-done, table-fan, table-row}
 use Rattle.tables.proofs.Least.{entry-small, lesser-some, lesser-bound, Ends, lowered, lowered-some, least, least-from, dup-tells, alike-ends, over-is, picked-same, picked-none}
 

@@ -12,10 +12,10 @@ use Rattle.laws.proofs.Tests.{by-test}
 use Rattle.numbers.specs.Next.{most-halfedges}
 use Rattle.rows.specs.Halfedges.{lent-halfedges}
 use Rattle.rows.specs.Triples.{lent-triples}
 use Rattle.net.specs.declared.Counts.{Counts}
 use Rattle.net.specs.Net.{Net, net}
 use Rattle.net.specs.Counts.{most-vertices, most-triangles, triangles-for, triangle-capacity-over, vertex-capacity-over, property-capacity-over, Shaped}
-use Rattle.dedupesound.specs.Grown.{faces-for, with-growth}
+use Rattle.net.specs.Grown.{faces-for, with-growth}
 
 -- none, or one for each triangle
 faces-fit : (used H : ℕ) → (faces-for used H ≡ 0) ⊎ (faces-for used H ≡ H / 3)
