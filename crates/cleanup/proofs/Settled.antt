@@ -23,9 +23,9 @@ split-so-far l H N normals references {rows} {positions} e q =
     ap (λ (r : Run). growing (middle rows positions r) H normals references) q ∙ ap (after-split l H N normals references) e
 
 -- the rounds from what splitting leaves, settled from a spare that holds the rows in use as at entry
-pub ends-clean : (l : Limits) (H N : ℕ) (rows saved : List ℤ) (positions held normals : List ℕ) (references : List ℤ) (a w x : Growing) {back : List ℤ} {put : List ℕ} →
+pub ends-clean : (l : Limits) (H N : ℕ) (rows spare-halfedges : List ℤ) (positions spare-positions normals : List ℕ) (references : List ℤ) (a w x : Growing) {back : List ℤ} {put : List ℕ} →
     Fitting l (begun H N rows positions normals references) → Grew l (begun H N rows positions normals references) (rounds l H a .growing) →
-    back ≡ over-rows H rows saved → put ≡ over-triples N positions held → w ≡ a → x ≡ settled-by l H N back put (rounds l H w .growing) →
+    back ≡ over-rows H rows spare-halfedges → put ≡ over-triples N positions spare-positions → w ≡ a → x ≡ settled-by l H N back put (rounds l H w .growing) →
     x ≡ settled l H N rows positions normals references (rounds l H a .growing)
-ends-clean l H N rows saved positions held normals references a w x {back} {put} f g b p q e =
-    ends-settled l H N rows saved positions held normals references (rounds l H a .growing) x f g b p (e ∙ ap (λ (y : Growing). settled-by l H N back put (rounds l H y .growing)) q)
+ends-clean l H N rows spare-halfedges positions spare-positions normals references a w x {back} {put} f g b p q e =
+    ends-settled l H N rows spare-halfedges positions spare-positions normals references (rounds l H a .growing) x f g b p (e ∙ ap (λ (y : Growing). settled-by l H N back put (rounds l H y .growing)) q)

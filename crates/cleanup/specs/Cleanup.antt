@@ -46,16 +46,16 @@ after-split l H N normals references o = growing (middle (o .halfedges) (o .posi
 -- past the checks: the list takes splitting's visits; the spare holds the rows in use as at entry; the work buffer reads zero over the
 -- half-edge capacity and the vertices, the list over the half-edge capacity
 unfoldable pub cleanAt : Limits → ℕ → ℕ → List ℤ → List ℕ → List ℕ → List ℤ → List ℤ → List ℕ → List ℕ → List ℕ → Left
-cleanAt l H N rows positions normals references saved held work list =
-    left-by (over-rows H rows saved) (over-triples N positions held) (cleared (l .halfedges + N) work) (cleared (l .halfedges) list)
+cleanAt l H N rows positions normals references spare-halfedges spare-positions work list =
+    left-by (over-rows H rows spare-halfedges) (over-triples N positions spare-positions) (cleared (l .halfedges + N) work) (cleared (l .halfedges) list)
     (settled l H N rows positions normals references
     (rounds l H (after-split l H N normals references (split-sound H N rows positions work list)) .growing))
 
 unfoldable pub cleanupTopology : Counts → Net → List ℤ → List ℕ → List ℕ → List ℕ → Left
-cleanupTopology c n saved held work list =
+cleanupTopology c n spare-halfedges spare-positions work list =
     cond (is-shaped c n)
-    (cond (lent-enough c (limits-of c n .halfedges) (limits-of c n .halfedges + c .vertices) saved held work list)
-    (past (sound-or (least-out (c .halfedges) (c .vertices) (n .halfedges))) (λ s. as-lent s n saved held work list)
-    (cleanAt (limits-of c n) (c .halfedges) (c .vertices) (n .halfedges) (n .positions) (n .normals) (n .references) saved held work list))
-    (as-lent short-buffer n saved held work list))
-    (as-lent shape n saved held work list)
+    (cond (lent-enough c (limits-of c n .halfedges) (limits-of c n .halfedges + c .vertices) spare-halfedges spare-positions work list)
+    (past (sound-or (least-out (c .halfedges) (c .vertices) (n .halfedges))) (λ s. as-lent s n spare-halfedges spare-positions work list)
+    (cleanAt (limits-of c n) (c .halfedges) (c .vertices) (n .halfedges) (n .positions) (n .normals) (n .references) spare-halfedges spare-positions work list))
+    (as-lent short-buffer n spare-halfedges spare-positions work list))
+    (as-lent shape n spare-halfedges spare-positions work list)

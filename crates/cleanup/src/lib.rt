@@ -65,19 +65,19 @@ fn clean_at(
     positions: &mut [u64],
     normals: &mut [u64],
     references: &mut [i32],
-    saved: &mut [i32],
-    held: &mut [u64],
+    spare_halfedges: &mut [i32],
+    spare_positions: &mut [u64],
     work: &mut [u32],
     list: &mut [u32],
     limits: Limits,
     halfedges: usize,
     vertices: usize,
 ) -> CleanupTopology
-    requires { ⌜ (SoundRows halfedges vertices (now rows) × (limits .vertices ≡ vertex-capacity-over (now positions))) × (Fitting limits (begun halfedges vertices (now rows) (now positions) (now normals) (now references)) × Enough limits halfedges vertices (limits .halfedges + vertices) (now saved) (now held) (now work) (now list)) ⌝ }
-    ensures { λ r. ⌜ left (cleanupSaid r) (now (rows .exit)) (now (positions .exit)) (now (normals .exit)) (now (references .exit)) (now (saved .exit)) (now (held .exit)) (now (work .exit)) (now (list .exit)) ≡ cleanAt limits halfedges vertices (now (rows .entry)) (now (positions .entry)) (now (normals .entry)) (now (references .entry)) (now (saved .entry)) (now (held .entry)) (now (work .entry)) (now (list .entry)) ⌝ }
+    requires { ⌜ (SoundRows halfedges vertices (now rows) × (limits .vertices ≡ vertex-capacity-over (now positions))) × (Fitting limits (begun halfedges vertices (now rows) (now positions) (now normals) (now references)) × Enough limits halfedges vertices (limits .halfedges + vertices) (now «spare_halfedges») (now «spare_positions») (now work) (now list)) ⌝ }
+    ensures { λ r. ⌜ left (cleanupSaid r) (now (rows .exit)) (now (positions .exit)) (now (normals .exit)) (now (references .exit)) (now («spare_halfedges» .exit)) (now («spare_positions» .exit)) (now (work .exit)) (now (list .exit)) ≡ cleanAt limits halfedges vertices (now (rows .entry)) (now (positions .entry)) (now (normals .entry)) (now (references .entry)) (now («spare_halfedges» .entry)) (now («spare_positions» .entry)) (now (work .entry)) (now (list .entry)) ⌝ }
 {
-    rows::halfedges::copy(rows, saved, halfedges);
-    rows::triples::copy(positions, held, vertices);
+    rows::halfedges::copy(rows, spare_halfedges, halfedges);
+    rows::triples::copy(positions, spare_positions, vertices);
     let said = split::split_sound(rows, positions, work, list, halfedges, vertices);
     let split = Grown {
         halfedges: halfedges,
@@ -88,8 +88,8 @@ fn clean_at(
         positions,
         normals,
         references,
-        saved,
-        held,
+        spare_halfedges,
+        spare_positions,
         work,
         list,
         limits,
@@ -109,12 +109,12 @@ pub fn cleanup_topology(
     normals: &mut [u64],
     references: &mut [i32],
     properties: &[u64],
-    saved: &mut [i32],
-    held: &mut [u64],
+    spare_halfedges: &mut [i32],
+    spare_positions: &mut [u64],
     work: &mut [u32],
     list: &mut [u32],
 ) -> CleanupTopology
-    ensures { λ r. ⌜ left (cleanupSaid r) (now (halfedges .exit)) (now (positions .exit)) (now (normals .exit)) (now (references .exit)) (now (saved .exit)) (now (held .exit)) (now (work .exit)) (now (list .exit)) ≡ cleanupTopology counts (net (now (halfedges .entry)) (now (positions .entry)) (now (normals .entry)) (now (references .entry)) (now (properties .entry))) (now (saved .entry)) (now (held .entry)) (now (work .entry)) (now (list .entry)) ⌝ }
+    ensures { λ r. ⌜ left (cleanupSaid r) (now (halfedges .exit)) (now (positions .exit)) (now (normals .exit)) (now (references .exit)) (now («spare_halfedges» .exit)) (now («spare_positions» .exit)) (now (work .exit)) (now (list .exit)) ≡ cleanupTopology counts (net (now (halfedges .entry)) (now (positions .entry)) (now (normals .entry)) (now (references .entry)) (now (properties .entry))) (now («spare_halfedges» .entry)) (now («spare_positions» .entry)) (now (work .entry)) (now (list .entry)) ⌝ }
 {
     if !net::shaped(
         counts,
@@ -130,8 +130,8 @@ pub fn cleanup_topology(
     let capacity = limits.halfedges;
     if !rounds::entry::enough(
         counts,
-        saved,
-        held,
+        spare_halfedges,
+        spare_positions,
         work,
         list,
         capacity,
@@ -146,8 +146,8 @@ pub fn cleanup_topology(
             positions,
             normals,
             references,
-            saved,
-            held,
+            spare_halfedges,
+            spare_positions,
             work,
             list,
             limits,

@@ -50,7 +50,7 @@ unfolding rounds
 rounds-halted l zero w t = refl
 rounds-halted l (suc k) w t = rw t
 
-module _ (c : Counts) (n : Net) (saved : List ℤ) (held work list : List ℕ) where
+module _ (c : Counts) (n : Net) (spare-halfedges : List ℤ) (spare-positions work list : List ℕ) where
   abbrev H : ℕ
   H = c .halfedges
 
@@ -61,19 +61,19 @@ module _ (c : Counts) (n : Net) (saved : List ℤ) (held work list : List ℕ) w
   l = limits-of c n
 
   abbrev pub result : Left
-  result = cleanupTopology c n saved held work list
+  result = cleanupTopology c n spare-halfedges spare-positions work list
 
   abbrev said : Left → Said
   said o = o .said
 
   abbrev entry : Said → Left
-  entry s = as-lent s n saved held work list
+  entry s = as-lent s n spare-halfedges spare-positions work list
 
   abbrev Long : Type 0
-  Long = LentEnough c n (halfedge-capacity c n + N) saved held work list
+  Long = LentEnough c n (halfedge-capacity c n + N) spare-halfedges spare-positions work list
 
   abbrev at-clean : Left
-  at-clean = cleanAt l H N (n .halfedges) (n .positions) (n .normals) (n .references) saved held work list
+  at-clean = cleanAt l H N (n .halfedges) (n .positions) (n .normals) (n .references) spare-halfedges spare-positions work list
 
   abbrev o : Outcome
   o = split-sound H N (n .halfedges) (n .positions) work list
@@ -97,8 +97,8 @@ module _ (c : Counts) (n : Net) (saved : List ℤ) (held work list : List ℕ) w
   unfolding cleanupTopology
   cleanup-refusals =
       long-refusals c n said entry (λ s. refl) Long nothing-asked nothing-asked
-      (is-lent c n (halfedge-capacity c n + N) saved held work list) true true
-      (told-lent c n (halfedge-capacity c n + N) saved held work list) told-nothing told-nothing
+      (is-lent c n (halfedge-capacity c n + N) spare-halfedges spare-positions work list) true true
+      (told-lent c n (halfedge-capacity c n + N) spare-halfedges spare-positions work list) told-nothing told-nothing
       (λ w. past (sound-or w) entry at-clean) (λ h. refl) (goes said entry (λ s. refl) at-clean late)
 
   -- the net as it is left
@@ -109,7 +109,7 @@ module _ (c : Counts) (n : Net) (saved : List ℤ) (held work list : List ℕ) w
   module _ (sound : Sound c n) (enough : Long) where
     passed : result ≡ at-clean
     unfolding cleanupTopology
-    passed = rw (shaped-true c n (sound .shaped), told-lent c n (halfedge-capacity c n + N) saved held work list .back enough, E.checked c n sound)
+    passed = rw (shaped-true c n (sound .shaped), told-lent c n (halfedge-capacity c n + N) spare-halfedges spare-positions work list .back enough, E.checked c n sound)
 
     in-capacity : H ≤ halfedge-capacity c n
     in-capacity = sound .shaped .halfedges-fit
@@ -141,9 +141,9 @@ module _ (c : Counts) (n : Net) (saved : List ℤ) (held work list : List ℕ) w
     pub cleanup-told : Ended c n (net-left result) (result .said)
     cleanup-told = rw passed ended-there
 
-    pub cleanup-spared : Spared c n saved held (result .saved) (result .held)
+    pub cleanup-spared : Spared c n spare-halfedges spare-positions (result .spare-halfedges) (result .spare-positions)
     unfolding cleanAt
-    cleanup-spared = rw passed (record { rows-saved = refl; positions-held = refl })
+    cleanup-spared = rw passed (record { halfedges-spared = refl; positions-spared = refl })
 
     -- the work buffer reads zero over the half-edge capacity and the vertices, the list over the half-edge capacity; both are unchanged beyond
     pub cleanup-cleared : (result .work ≡ cleared (halfedge-capacity c n + N) work) × (result .list ≡ cleared (halfedge-capacity c n) list)

@@ -47,15 +47,15 @@ pub record Left : Type 0 where
   pub said : Said
   pub halfedges : List ℤ
   pub positions : List ℕ
-  pub saved : List ℤ
-  pub held : List ℕ
+  pub spare-halfedges : List ℤ
+  pub spare-positions : List ℕ
   pub list : List ℕ
 
 abbrev pub left : Said → List ℤ → List ℕ → List ℤ → List ℕ → List ℕ → Left
-left s h p sh sp l = record { said = s; halfedges = h; positions = p; saved = sh; held = sp; list = l }
+left s h p sh sp l = record { said = s; halfedges = h; positions = p; spare-halfedges = sh; spare-positions = sp; list = l }
 
 abbrev pub left-by : List ℤ → List ℕ → List ℕ → Middle → Left
-left-by saved held list m = left (runSaid (m .run)) (m .halfedges) (m .positions) saved held list
+left-by spare-halfedges spare-positions list m = left (runSaid (m .run)) (m .halfedges) (m .positions) spare-halfedges spare-positions list
 
 -- what bars an edge before anything is written: it is dead, or long
 pub data Bar : Type 0 where
@@ -91,15 +91,15 @@ to-settle t = stops (t .outcome) (t .middle)
 
 -- past the checks: the spare holds the rows in use as at entry, and the list reads zero over its stated length
 unfoldable pub collapseSettled : ℕ → ℕ → ℕ → ℕ → Bool → List ℤ → Tolerance → ℕ → List ℤ → List ℕ → List ℤ → List ℕ → List ℕ → Left
-collapseSettled H N capacity room props references t e rows positions saved held list =
-    left-by (over-rows H rows saved) (over-triples N positions held) (cleared room list)
+collapseSettled H N capacity room props references t e rows positions spare-halfedges spare-positions list =
+    left-by (over-rows H rows spare-halfedges) (over-triples N positions spare-positions) (cleared room list)
     (settled N rows positions (to-settle (collapse-at H capacity props references t e (begin rows positions N))))
 
 unfoldable pub collapseNamed : ℕ → ℕ → ℕ → Bool → List ℤ → Tolerance → List ℤ → List ℕ → List ℤ → List ℕ → List ℕ → Named → Left
-collapseNamed H N room props references t rows positions saved held list w =
-    named-or (left bad-number rows positions saved held list) w (λ e.
-    bar-or (bar (judge H N rows positions t e)) (λ s. left s rows positions saved held list)
-    (collapseSettled H N (vertex-capacity-over positions) room props references t e rows positions saved held list))
+collapseNamed H N room props references t rows positions spare-halfedges spare-positions list w =
+    named-or (left bad-number rows positions spare-halfedges spare-positions list) w (λ e.
+    bar-or (bar (judge H N rows positions t e)) (λ s. left s rows positions spare-halfedges spare-positions list)
+    (collapseSettled H N (vertex-capacity-over positions) room props references t e rows positions spare-halfedges spare-positions list))
 
 -- props are carried only if a property row has numbers and there are references
 abbrev pub carries-props : Counts → Bool
@@ -109,10 +109,10 @@ abbrev pub tolerance : ℤ → Float → Float → Tolerance
 tolerance first-new-vert tol epsilon = record { «first_new_vert» = first-new-vert; tol = tol; epsilon = epsilon }
 
 unfoldable pub collapseEdge : Counts → Net → List ℤ → List ℕ → List ℕ → ℤ → Tolerance → Left
-collapseEdge c n saved held list halfedge t =
+collapseEdge c n spare-halfedges spare-positions list halfedge t =
     cond (is-shaped c n)
-    (cond (spare-holds c saved held && is-long (length list) (halfedge-capacity c n))
-    (past (sound-or (least-out (c .halfedges) (c .vertices) (n .halfedges))) (λ s. left s (n .halfedges) (n .positions) saved held list)
-    (collapseNamed (c .halfedges) (c .vertices) (halfedge-capacity c n) (carries-props c) (n .references) t (n .halfedges) (n .positions) saved held list (names halfedge (c .halfedges))))
-    (left short-buffer (n .halfedges) (n .positions) saved held list))
-    (left shape (n .halfedges) (n .positions) saved held list)
+    (cond (spare-holds c spare-halfedges spare-positions && is-long (length list) (halfedge-capacity c n))
+    (past (sound-or (least-out (c .halfedges) (c .vertices) (n .halfedges))) (λ s. left s (n .halfedges) (n .positions) spare-halfedges spare-positions list)
+    (collapseNamed (c .halfedges) (c .vertices) (halfedge-capacity c n) (carries-props c) (n .references) t (n .halfedges) (n .positions) spare-halfedges spare-positions list (names halfedge (c .halfedges))))
+    (left short-buffer (n .halfedges) (n .positions) spare-halfedges spare-positions list))
+    (left shape (n .halfedges) (n .positions) spare-halfedges spare-positions list)

@@ -127,8 +127,8 @@ fn collapse_settled(
     rows: &mut [i32],
     positions: &mut [u64],
     references: &[i32],
-    saved: &mut [i32],
-    held: &mut [u64],
+    spare_halfedges: &mut [i32],
+    spare_positions: &mut [u64],
     list: &mut [u32],
     halfedges: usize,
     vertices: usize,
@@ -138,11 +138,11 @@ fn collapse_settled(
     tolerance: Tolerance,
     e: Halfedge,
 ) -> CollapseEdge
-    requires { ⌜ ((halfedgeNumber e < halfedges) × InUse halfedges (now rows)) × (((vertices ≤ capacity) × VerticesIn capacity (now positions)) × ((props ≡ true → halfedges ≤ 3 * lent-triples (now references)) × (((halfedges ≤ lent-halfedges (now saved)) × (vertices ≤ lent-triples (now held))) × ((halfedges ≤ room) × (room ≤ length (now list)))))) ⌝ }
-    ensures { λ r. ⌜ left (collapseSaid r) (now (rows .exit)) (now (positions .exit)) (now (saved .exit)) (now (held .exit)) (now (list .exit)) ≡ collapseSettled halfedges vertices capacity room props (now (references .entry)) tolerance (halfedgeNumber e) (now (rows .entry)) (now (positions .entry)) (now (saved .entry)) (now (held .entry)) (now (list .entry)) ⌝ }
+    requires { ⌜ ((halfedgeNumber e < halfedges) × InUse halfedges (now rows)) × (((vertices ≤ capacity) × VerticesIn capacity (now positions)) × ((props ≡ true → halfedges ≤ 3 * lent-triples (now references)) × (((halfedges ≤ lent-halfedges (now «spare_halfedges»)) × (vertices ≤ lent-triples (now «spare_positions»))) × ((halfedges ≤ room) × (room ≤ length (now list)))))) ⌝ }
+    ensures { λ r. ⌜ left (collapseSaid r) (now (rows .exit)) (now (positions .exit)) (now («spare_halfedges» .exit)) (now («spare_positions» .exit)) (now (list .exit)) ≡ collapseSettled halfedges vertices capacity room props (now (references .entry)) tolerance (halfedgeNumber e) (now (rows .entry)) (now (positions .entry)) (now («spare_halfedges» .entry)) (now («spare_positions» .entry)) (now (list .entry)) ⌝ }
 {
-    rows::halfedges::copy(rows, saved, halfedges);
-    rows::triples::copy(positions, held, vertices);
+    rows::halfedges::copy(rows, spare_halfedges, halfedges);
+    rows::triples::copy(positions, spare_positions, vertices);
     let run = try_edge(
         rows,
         positions,
@@ -155,7 +155,15 @@ fn collapse_settled(
         tolerance,
         e,
     );
-    steps::settle(rows, positions, saved, held, halfedges, vertices, run);
+    steps::settle(
+        rows,
+        positions,
+        spare_halfedges,
+        spare_positions,
+        halfedges,
+        vertices,
+        run,
+    );
     stretches::zero_u32(list, 0, room);
     answer(run)
 }
@@ -165,8 +173,8 @@ fn collapse_named(
     rows: &mut [i32],
     positions: &mut [u64],
     references: &[i32],
-    saved: &mut [i32],
-    held: &mut [u64],
+    spare_halfedges: &mut [i32],
+    spare_positions: &mut [u64],
     list: &mut [u32],
     halfedges: usize,
     vertices: usize,
@@ -175,8 +183,8 @@ fn collapse_named(
     tolerance: Tolerance,
     halfedge: i32,
 ) -> CollapseEdge
-    requires { ⌜ (InUse halfedges (now rows) × (vertices ≤ vertex-capacity-over (now positions))) × ((props ≡ true → halfedges ≤ 3 * lent-triples (now references)) × (((halfedges ≤ lent-halfedges (now saved)) × (vertices ≤ lent-triples (now held))) × ((halfedges ≤ room) × (room ≤ length (now list))))) ⌝ }
-    ensures { λ r. ⌜ left (collapseSaid r) (now (rows .exit)) (now (positions .exit)) (now (saved .exit)) (now (held .exit)) (now (list .exit)) ≡ collapseNamed halfedges vertices room props (now (references .entry)) tolerance (now (rows .entry)) (now (positions .entry)) (now (saved .entry)) (now (held .entry)) (now (list .entry)) (names halfedge halfedges) ⌝ }
+    requires { ⌜ (InUse halfedges (now rows) × (vertices ≤ vertex-capacity-over (now positions))) × ((props ≡ true → halfedges ≤ 3 * lent-triples (now references)) × (((halfedges ≤ lent-halfedges (now «spare_halfedges»)) × (vertices ≤ lent-triples (now «spare_positions»))) × ((halfedges ≤ room) × (room ≤ length (now list))))) ⌝ }
+    ensures { λ r. ⌜ left (collapseSaid r) (now (rows .exit)) (now (positions .exit)) (now («spare_halfedges» .exit)) (now («spare_positions» .exit)) (now (list .exit)) ≡ collapseNamed halfedges vertices room props (now (references .entry)) tolerance (now (rows .entry)) (now (positions .entry)) (now («spare_halfedges» .entry)) (now («spare_positions» .entry)) (now (list .entry)) (names halfedge halfedges) ⌝ }
 {
     let NamedHalfedge::At(e) = numbers::halfedge_given(halfedge, halfedges) else {
         return CollapseEdge::Number;
@@ -190,8 +198,8 @@ fn collapse_named(
                 rows,
                 positions,
                 references,
-                saved,
-                held,
+                spare_halfedges,
+                spare_positions,
                 list,
                 halfedges,
                 vertices,
@@ -213,15 +221,15 @@ pub fn collapse_edge(
     normals: &[u64],
     references: &[i32],
     properties: &[u64],
-    saved: &mut [i32],
-    held: &mut [u64],
+    spare_halfedges: &mut [i32],
+    spare_positions: &mut [u64],
     list: &mut [u32],
     halfedge: i32,
     first_new_vert: i32,
     tol: f64,
     epsilon: f64,
 ) -> CollapseEdge
-    ensures { λ r. ⌜ left (collapseSaid r) (now (halfedges .exit)) (now (positions .exit)) (now (saved .exit)) (now (held .exit)) (now (list .exit)) ≡ collapseEdge counts (net (now (halfedges .entry)) (now (positions .entry)) (now (normals .entry)) (now (references .entry)) (now (properties .entry))) (now (saved .entry)) (now (held .entry)) (now (list .entry)) halfedge (tolerance «first_new_vert» tol epsilon) ⌝ }
+    ensures { λ r. ⌜ left (collapseSaid r) (now (halfedges .exit)) (now (positions .exit)) (now («spare_halfedges» .exit)) (now («spare_positions» .exit)) (now (list .exit)) ≡ collapseEdge counts (net (now (halfedges .entry)) (now (positions .entry)) (now (normals .entry)) (now (references .entry)) (now (properties .entry))) (now («spare_halfedges» .entry)) (now («spare_positions» .entry)) (now (list .entry)) halfedge (tolerance «first_new_vert» tol epsilon) ⌝ }
 {
     if !net::shaped(
         counts,
@@ -234,7 +242,8 @@ pub fn collapse_edge(
         return CollapseEdge::Shape;
     }
     let room = net::halfedge_capacity(counts, halfedges, normals, references);
-    if !(net::spare_fits(counts, saved, held) & net::long_enough(list.len(), room)) {
+    if !(net::spare_fits(counts, spare_halfedges, spare_positions)
+        & net::long_enough(list.len(), room)) {
         return CollapseEdge::ShortBuffer;
     }
     let props = (0 < counts.num_prop) & (0 < counts.references);
@@ -249,8 +258,8 @@ pub fn collapse_edge(
             halfedges,
             positions,
             references,
-            saved,
-            held,
+            spare_halfedges,
+            spare_positions,
             list,
             counts.halfedges,
             counts.vertices,

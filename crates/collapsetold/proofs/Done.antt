@@ -60,7 +60,7 @@ settled-going N rows positions m r = rw r
 settle-ran : (m : Middle) → to-settle (ran m) ≡ m
 settle-ran m = by-test (refused m) (λ t. rw t) (λ t. rw t)
 
-module _ (c : Counts) (n : Net) (saved : List ℤ) (held list : List ℕ) (t : Tolerance) (halfedge : ℤ) where
+module _ (c : Counts) (n : Net) (spare-halfedges : List ℤ) (spare-positions list : List ℕ) (t : Tolerance) (halfedge : ℤ) where
   abbrev H : ℕ
   H = c .halfedges
 
@@ -74,9 +74,9 @@ module _ (c : Counts) (n : Net) (saved : List ℤ) (held list : List ℕ) (t : T
   positions = n .positions
 
   abbrev result : Left
-  result = collapseEdge c n saved held list halfedge t
+  result = collapseEdge c n spare-halfedges spare-positions list halfedge t
 
-  module _ (sound : Sound c n) (lends : Lends c n saved held list t) (e : ℕ) (is-e : halfedge ≡ pos e) (l : Live H rows e) where
+  module _ (sound : Sound c n) (lends : Lends c n spare-halfedges spare-positions list t) (e : ℕ) (is-e : halfedge ≡ pos e) (l : Live H rows e) where
     abbrev w : Within c n
     w = within c n (sound .shaped)
 
@@ -100,7 +100,7 @@ module _ (c : Counts) (n : Net) (saved : List ℤ) (held list : List ℕ) (t : T
     steps = about H capacity (carries-props c) (n .references) v e p (move rows p) neighbours-listed (begin rows positions N)
 
     abbrev left-at : Middle → Left
-    left-at m = left-by (over-rows H rows saved) (over-triples N positions held) (cleared (halfedge-capacity c n) list) m
+    left-at m = left-by (over-rows H rows spare-halfedges) (over-triples N positions spare-positions) (cleared (halfedge-capacity c n) list) m
 
     onward-from : {h : ℕ} → Live H rows h → onward H rows h ≡ at (move rows h)
     unfolding onward
@@ -121,10 +121,10 @@ module _ (c : Counts) (n : Net) (saved : List ℤ) (held list : List ℕ) (t : T
     module _ (short : eqb (test .number) 0 ≡ true) where
       tries : collapse-at H capacity (carries-props c) (n .references) t e (begin rows positions N) ≡ ran (short-at H capacity (carries-props c) (n .references) v e p (begin rows positions N))
       unfolding collapse-at
-      tries = rw (judge-live c n saved held list t (w .halfedges-thirds) (sound .in-order) e l, short)
+      tries = rw (judge-live c n spare-halfedges spare-positions list t (w .halfedges-thirds) (sound .in-order) e l, short)
 
-      passes : result ≡ collapseSettled H N capacity (halfedge-capacity c n) (carries-props c) (n .references) t e rows positions saved held list
-      passes = reached c n saved held list t halfedge sound lends e is-e l ∙ rw short
+      passes : result ≡ collapseSettled H N capacity (halfedge-capacity c n) (carries-props c) (n .references) t e rows positions spare-halfedges spare-positions list
+      passes = reached c n spare-halfedges spare-positions list t halfedge sound lends e is-e l ∙ rw short
 
       settles : result ≡ left-at (settled N rows positions steps)
       unfolding collapseSettled
@@ -149,8 +149,8 @@ module _ (c : Counts) (n : Net) (saved : List ℤ) (held list : List ℕ) (t : T
       short : eqb (test .number) 0 ≡ true
       short = by-test (eqb (test .number) 0) (λ b. b) (λ b. absurd (eqb-false (test .number) 0 b (sym (ap (λ (o : Left). o .said .number) (refuses b)) ∙ said-0)))
         where
-          refuses : eqb (test .number) 0 ≡ false → result ≡ left test rows positions saved held list
-          refuses b = reached c n saved held list t halfedge sound lends e is-e l ∙ rw b
+          refuses : eqb (test .number) 0 ≡ false → result ≡ left test rows positions spare-halfedges spare-positions list
+          refuses b = reached c n spare-halfedges spare-positions list t halfedge sound lends e is-e l ∙ rw b
 
       zero-said : how-said (steps .run .vertices) (steps .run .how) .number ≡ 0
       zero-said =
@@ -164,15 +164,15 @@ module _ (c : Counts) (n : Net) (saved : List ℤ) (held list : List ℕ) (t : T
       leaves = settles short ∙ ap left-at (settled-going N rows positions steps went)
 
       -- where no loop is formed
-      pub collapse-done : NoLoop rows e → Done H N (halfedge-capacity c n) e (carries-props c) (n .references) rows positions saved held list result
+      pub collapse-done : NoLoop rows e → Done H N (halfedge-capacity c n) e (carries-props c) (n .references) rows positions spare-halfedges spare-positions list result
       collapse-done free =
           let f = folds H N rows positions (w .halfedges-thirds) (w .halfedges-lent) (w .vertices-most) (sound .in-order) (w .vertices-lent) e l capacity (carries-props c) (n .references) neighbours-listed refl free in
           let same : steps .run .vertices ≡ N = ap (λ (m : Middle). m .run .vertices) f ∙ fold-same H (move rows p) _ in
           rw leaves (record {
             said = how-done (steps .run .vertices) (steps .run .how) zero-said ∙ ap (λ (u : ℕ). done (whole (pos u) ∷ [])) same;
             away = away H N rows positions (w .halfedges-thirds) (w .halfedges-lent) (w .vertices-most) (sound .in-order) (w .vertices-lent) e l capacity (carries-props c) (n .references) neighbours-listed refl free;
-            rows-saved = refl;
-            positions-held = refl;
+            halfedges-spared = refl;
+            positions-spared = refl;
             list-cleared = refl;
           })
 

@@ -81,21 +81,21 @@ told (C.Long length limit) = refl
 told C.NoRoom = refl
 told C.Stopped = refl
 
-pub collapse-agree : (c : Counts) (n : Net) (saved : List ℤ) (held list : List ℕ) (halfedge : ℤ) (t : Tolerance) (a b : CollapseEdge) (h k : List ℤ) (p q : List ℕ) (sh tk : List ℤ) (sp tq l m : List ℕ) →
-    left (collapseSaid a) h p sh sp l ≡ collapseEdge c n saved held list halfedge t → left (collapseSaid b) k q tk tq m ≡ collapseEdge c n saved held list halfedge t →
+pub collapse-agree : (c : Counts) (n : Net) (spare-halfedges : List ℤ) (spare-positions list : List ℕ) (halfedge : ℤ) (t : Tolerance) (a b : CollapseEdge) (h k : List ℤ) (p q : List ℕ) (sh tk : List ℤ) (sp tq l m : List ℕ) →
+    left (collapseSaid a) h p sh sp l ≡ collapseEdge c n spare-halfedges spare-positions list halfedge t → left (collapseSaid b) k q tk tq m ≡ collapseEdge c n spare-halfedges spare-positions list halfedge t →
     (a ≡ b) × ((h ≡ k) × ((p ≡ q) × ((sh ≡ tk) × ((sp ≡ tq) × (l ≡ m)))))
-collapse-agree c n saved held list halfedge t a b h k p q sh tk sp tq l m x y =
+collapse-agree c n spare-halfedges spare-positions list halfedge t a b h k p q sh tk sp tq l m x y =
     let e = x ∙ sym y in
-    (read-back collapseSaid answer-of told a b (ap (λ (o : Left). o .said) e), (ap (λ (o : Left). o .halfedges) e, (ap (λ (o : Left). o .positions) e, (ap (λ (o : Left). o .saved) e, (ap (λ (o : Left). o .held) e, ap (λ (o : Left). o .list) e)))))
+    (read-back collapseSaid answer-of told a b (ap (λ (o : Left). o .said) e), (ap (λ (o : Left). o .halfedges) e, (ap (λ (o : Left). o .positions) e, (ap (λ (o : Left). o .spare-halfedges) e, (ap (λ (o : Left). o .spare-positions) e, ap (λ (o : Left). o .list) e)))))
 
 -- ---- 6 or 7: the half-edge rows are as at entry, and of the positions only the free rows that the steps had filled are changed: they read zero
-pub collapse-refused : (H N capacity room : ℕ) (props : Bool) (references : List ℤ) (t : Tolerance) (e : ℕ) (rows : List ℤ) (positions : List ℕ) (saved : List ℤ) (held list : List ℕ) →
+pub collapse-refused : (H N capacity room : ℕ) (props : Bool) (references : List ℤ) (t : Tolerance) (e : ℕ) (rows : List ℤ) (positions : List ℕ) (spare-halfedges : List ℤ) (spare-positions list : List ℕ) →
     refused (to-settle (collapse-at H capacity props references t e (begin rows positions N))) ≡ true →
-    (collapseSettled H N capacity room props references t e rows positions saved held list .halfedges ≡ rows)
-    × (collapseSettled H N capacity room props references t e rows positions saved held list .positions
+    (collapseSettled H N capacity room props references t e rows positions spare-halfedges spare-positions list .halfedges ≡ rows)
+    × (collapseSettled H N capacity room props references t e rows positions spare-halfedges spare-positions list .positions
     ≡ zero-triples N (to-settle (collapse-at H capacity props references t e (begin rows positions N)) .run .vertices) positions)
 unfolding collapseSettled
-collapse-refused H N capacity room props references t e rows positions saved held list r = (rw r, rw r)
+collapse-refused H N capacity room props references t e rows positions spare-halfedges spare-positions list r = (rw r, rw r)
 
 -- ---- the short test says 0 or 8
 between-says : (positions : List ℕ) (t : Tolerance) (u v : ℕ) → eqb (between positions t u v .number) 0 ≡ false → between positions t u v .number ≡ 8
@@ -148,7 +148,7 @@ steps-late u W.Going = (λ e. omega (arith, e .0), λ e. omega (arith, e))
 steps-late u W.NoRoom = (λ e. omega (arith, e .1), λ e. omega (arith, e))
 steps-late u W.Stopped = (λ e. omega (arith, e .1), λ e. omega (arith, e))
 
-module _ (c : Counts) (n : Net) (saved : List ℤ) (held list : List ℕ) (t : Tolerance) where
+module _ (c : Counts) (n : Net) (spare-halfedges : List ℤ) (spare-positions list : List ℕ) (t : Tolerance) where
   abbrev H : ℕ
   H = c .halfedges
 
@@ -159,13 +159,13 @@ module _ (c : Counts) (n : Net) (saved : List ℤ) (held list : List ℕ) (t : T
   rows = n .halfedges
 
   abbrev at-entry : Said → Left
-  at-entry s = left s rows (n .positions) saved held list
+  at-entry s = left s rows (n .positions) spare-halfedges spare-positions list
 
   abbrev said-left : Left → Said
   said-left o = o .said
 
   abbrev done-at : ℕ → Left
-  done-at e = collapseSettled H N (vertex-capacity-over (n .positions)) (halfedge-capacity c n) (carries-props c) (n .references) t e rows (n .positions) saved held list
+  done-at e = collapseSettled H N (vertex-capacity-over (n .positions)) (halfedge-capacity c n) (carries-props c) (n .references) t e rows (n .positions) spare-halfedges spare-positions list
 
   settled-late : (e : ℕ) → Late (done-at e .said)
   unfolding collapseSettled
@@ -182,23 +182,23 @@ module _ (c : Counts) (n : Net) (saved : List ℤ) (held list : List ℕ) (t : T
 
   -- what a caller lends is long enough
   abbrev pub Lends : Type 0
-  Lends = ((H ≤ lent-halfedges saved) × (N ≤ lent-triples held)) × (halfedge-capacity c n ≤ length list)
+  Lends = ((H ≤ lent-halfedges spare-halfedges) × (N ≤ lent-triples spare-positions)) × (halfedge-capacity c n ≤ length list)
 
   abbrev long-enough : Bool
-  long-enough = spare-holds c saved held && is-long (length list) (halfedge-capacity c n)
+  long-enough = spare-holds c spare-halfedges spare-positions && is-long (length list) (halfedge-capacity c n)
 
   lends-told : Tells long-enough Lends
-  lends-told = told-both (told-both (told-least H (lent-halfedges saved)) (told-least N (lent-triples held))) (told-least (halfedge-capacity c n) (length list))
+  lends-told = told-both (told-both (told-least H (lent-halfedges spare-halfedges)) (told-least N (lent-triples spare-positions))) (told-least (halfedge-capacity c n) (length list))
 
-  pub collapse-refusals : (halfedge : ℤ) → Refusals (of-sound c n Lends (Names H halfedge) (NamesLive c n halfedge)) said-left at-entry (collapseEdge c n saved held list halfedge t)
+  pub collapse-refusals : (halfedge : ℤ) → Refusals (of-sound c n Lends (Names H halfedge) (NamesLive c n halfedge)) said-left at-entry (collapseEdge c n spare-halfedges spare-positions list halfedge t)
   unfolding collapseEdge collapseNamed
   collapse-refusals halfedge =
       long-refusals c n said-left at-entry (λ s. refl) Lends (Names H halfedge) (NamesLive c n halfedge)
       long-enough (is-named (names halfedge H)) (is-live c n (names halfedge H))
       lends-told (told-names H halfedge) (told-live c n halfedge)
-      (λ w. past (sound-or w) at-entry (collapseNamed H N (halfedge-capacity c n) (carries-props c) (n .references) t rows (n .positions) saved held list (names halfedge H))) (λ h. refl) (go (names halfedge H))
+      (λ w. past (sound-or w) at-entry (collapseNamed H N (halfedge-capacity c n) (carries-props c) (n .references) t rows (n .positions) spare-halfedges spare-positions list (names halfedge H))) (λ h. refl) (go (names halfedge H))
     where
-      go : (w : Named) → Begins said-left at-entry (collapseNamed H N (halfedge-capacity c n) (carries-props c) (n .references) t rows (n .positions) saved held list w) (checked true true nothing (is-named w) (is-live c n w))
+      go : (w : Named) → Begins said-left at-entry (collapseNamed H N (halfedge-capacity c n) (carries-props c) (n .references) t rows (n .positions) spare-halfedges spare-positions list w) (checked true true nothing (is-named w) (is-live c n w))
       go (at e) =
           by-test (is-paired rows e)
           (λ a. rw a (goes said-left at-entry (λ s. refl) _ (judged-late e (judge H N rows (n .positions) t e) (paired-late H N rows (n .positions) t e a))))
@@ -236,7 +236,7 @@ module _ (c : Counts) (n : Net) (saved : List ℤ) (held list : List ℕ) (t : T
 
   module _ (halfedge : ℤ) where
     abbrev result : Left
-    result = collapseEdge c n saved held list halfedge t
+    result = collapseEdge c n spare-halfedges spare-positions list halfedge t
 
     pub reached : (s : Sound c n) → Lends → (e : ℕ) → halfedge ≡ pos e → (l : Live H rows e) →
         result ≡ judged-by (s .shaped .thirds) (s .in-order) e l (between (n .positions) t (start-vertex rows e) (end-vertex rows e))

@@ -99,9 +99,9 @@ pub record CollapsedAway (H N e : ℕ) (props : Bool) (references rows after : L
 
 -- 0 of the entry: as many vertices are in use as before; the spares hold the rows in use as at entry, and the list reads zero over the
 -- half-edge capacity
-pub record Done (H N capacity e : ℕ) (props : Bool) (references rows : List ℤ) (positions : List ℕ) (saved : List ℤ) (held list : List ℕ) (o : Left) : Type 0 where
+pub record Done (H N capacity e : ℕ) (props : Bool) (references rows : List ℤ) (positions : List ℕ) (spare-halfedges : List ℤ) (spare-positions list : List ℕ) (o : Left) : Type 0 where
   pub said : o .said ≡ done (whole (pos N) ∷ [])
   pub away : CollapsedAway H N e props references rows (o .halfedges) positions (o .positions)
-  pub rows-saved : o .saved ≡ over-rows H rows saved
-  pub positions-held : o .held ≡ over-triples N positions held
+  pub halfedges-spared : o .spare-halfedges ≡ over-rows H rows spare-halfedges
+  pub positions-spared : o .spare-positions ≡ over-triples N positions spare-positions
   pub list-cleared : o .list ≡ cleared capacity list

@@ -13,12 +13,12 @@ use Rattle.settling.specs.Settling.{begun, grownSaid}
 use Rattle.dedupe.specs.Dedupe.{dedupe-at}
 use Rattle.dedupe.specs.DedupeEdge.{left, left-by, dedupeAt}
 
-pub settled-left : (l : Limits) (H N e : ℕ) (rows saved : List ℤ) (positions held normals : List ℕ) (references : List ℤ) (w : Growing) {said : Said} {after back : List ℤ} {moved put named : List ℕ} {marked : List ℤ} (g : Grown) →
+pub settled-left : (l : Limits) (H N e : ℕ) (rows spare-halfedges : List ℤ) (positions spare-positions normals : List ℕ) (references : List ℤ) (w : Growing) {said : Said} {after back : List ℤ} {moved put named : List ℕ} {marked : List ℤ} (g : Grown) →
     w ≡ dedupe-at l e (begun H N rows positions normals references) →
-    back ≡ over-rows H rows saved → put ≡ over-triples N positions held →
+    back ≡ over-rows H rows spare-halfedges → put ≡ over-triples N positions spare-positions →
     so-far after moved named marked g ≡ settled l H N rows positions normals references w → said ≡ grownSaid g →
-    left said after moved named marked back put ≡ dedupeAt l H N e rows positions normals references saved held
+    left said after moved named marked back put ≡ dedupeAt l H N e rows positions normals references spare-halfedges spare-positions
 unfolding dedupeAt
-settled-left l H N e rows saved positions held normals references w {after} {back} {moved} {put} {named} {marked} g is b p s q =
+settled-left l H N e rows spare-halfedges positions spare-positions normals references w {after} {back} {moved} {put} {named} {marked} g is b p s q =
     ap (λ (x : Said). left x after moved named marked back put) q
     ∙ (λ i. left-by (b i) (p i) ((s ∙ ap (settled l H N rows positions normals references) is) i))

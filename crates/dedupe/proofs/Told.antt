@@ -20,12 +20,12 @@ use Rattle.dedupe.specs.Dedupe.{dedupe-at}
 use Rattle.dedupe.specs.DedupeEdge.{Left, left, dedupeSaid, dedupeAt, dedupeEdge}
 
 -- 6 or 7: of every array only the free rows that the steps had filled are changed: they read zero
-module _ (l : Limits) (H N e : ℕ) (rows : List ℤ) (positions normals : List ℕ) (references saved : List ℤ) (held : List ℕ) where
+module _ (l : Limits) (H N e : ℕ) (rows : List ℤ) (positions normals : List ℕ) (references spare-halfedges : List ℤ) (spare-positions : List ℕ) where
   abbrev steps : Growing
   steps = dedupe-at l e (begun H N rows positions normals references)
 
   abbrev after : Left
-  after = dedupeAt l H N e rows positions normals references saved held
+  after = dedupeAt l H N e rows positions normals references spare-halfedges spare-positions
 
   pub dedupe-refused : halted steps ≡ true →
       (after .halfedges ≡ zero-rows H (steps .count) rows)
@@ -56,9 +56,9 @@ told D.Dead = refl
 told D.NoRoom = refl
 told D.Stopped = refl
 
-pub dedupe-agree : (c : Counts) (n : Net) (saved : List ℤ) (held : List ℕ) (halfedge : ℤ) (a b : DedupeEdge) (h h' : List ℤ) (p p' f f' : List ℕ) (r r' s s' : List ℤ) (q q' : List ℕ) →
-    left (dedupeSaid a) h p f r s q ≡ dedupeEdge c n saved held halfedge → left (dedupeSaid b) h' p' f' r' s' q' ≡ dedupeEdge c n saved held halfedge →
+pub dedupe-agree : (c : Counts) (n : Net) (spare-halfedges : List ℤ) (spare-positions : List ℕ) (halfedge : ℤ) (a b : DedupeEdge) (h h' : List ℤ) (p p' f f' : List ℕ) (r r' s s' : List ℤ) (q q' : List ℕ) →
+    left (dedupeSaid a) h p f r s q ≡ dedupeEdge c n spare-halfedges spare-positions halfedge → left (dedupeSaid b) h' p' f' r' s' q' ≡ dedupeEdge c n spare-halfedges spare-positions halfedge →
     (a ≡ b) × ((h ≡ h') × ((p ≡ p') × ((f ≡ f') × ((r ≡ r') × ((s ≡ s') × (q ≡ q'))))))
-dedupe-agree c n saved held halfedge a b h h' p p' f f' r r' s s' q q' x y =
+dedupe-agree c n spare-halfedges spare-positions halfedge a b h h' p p' f f' r r' s s' q q' x y =
     let e = x ∙ sym y in
-    (read-back dedupeSaid answer-of told a b (ap (λ (o : Left). o .said) e), (ap (λ (o : Left). o .halfedges) e, (ap (λ (o : Left). o .positions) e, (ap (λ (o : Left). o .normals) e, (ap (λ (o : Left). o .references) e, (ap (λ (o : Left). o .saved) e, ap (λ (o : Left). o .held) e))))))
+    (read-back dedupeSaid answer-of told a b (ap (λ (o : Left). o .said) e), (ap (λ (o : Left). o .halfedges) e, (ap (λ (o : Left). o .positions) e, (ap (λ (o : Left). o .normals) e, (ap (λ (o : Left). o .references) e, (ap (λ (o : Left). o .spare-halfedges) e, ap (λ (o : Left). o .spare-positions) e))))))

@@ -37,32 +37,32 @@ pub record Left : Type 0 where
   pub positions : List ℕ
   pub normals : List ℕ
   pub references : List ℤ
-  pub saved : List ℤ
-  pub held : List ℕ
+  pub spare-halfedges : List ℤ
+  pub spare-positions : List ℕ
 
 abbrev pub left : Said → List ℤ → List ℕ → List ℕ → List ℤ → List ℤ → List ℕ → Left
-left s h p n r sh sp = record { said = s; halfedges = h; positions = p; normals = n; references = r; saved = sh; held = sp }
+left s h p n r sh sp = record { said = s; halfedges = h; positions = p; normals = n; references = r; spare-halfedges = sh; spare-positions = sp }
 
 abbrev pub left-by : List ℤ → List ℕ → Growing → Left
-left-by saved held w =
-    left (grown-said (w .count) (w .middle .run .vertices) (w .middle .run .how)) (rows-of w) (w .middle .positions) (w .normals) (w .references) saved held
+left-by spare-halfedges spare-positions w =
+    left (grown-said (w .count) (w .middle .run .vertices) (w .middle .run .how)) (rows-of w) (w .middle .positions) (w .normals) (w .references) spare-halfedges spare-positions
 
 -- past the checks: the spare holds the rows in use as at entry
 unfoldable pub dedupeAt : Limits → ℕ → ℕ → ℕ → List ℤ → List ℕ → List ℕ → List ℤ → List ℤ → List ℕ → Left
-dedupeAt l H N e rows positions normals references saved held =
-    left-by (over-rows H rows saved) (over-triples N positions held)
+dedupeAt l H N e rows positions normals references spare-halfedges spare-positions =
+    left-by (over-rows H rows spare-halfedges) (over-triples N positions spare-positions)
     (settled l H N rows positions normals references (dedupe-at l e (begun H N rows positions normals references)))
 
 unfoldable pub dedupeNamed : Limits → ℕ → ℕ → List ℤ → List ℕ → List ℕ → List ℤ → List ℤ → List ℕ → Named → Left
-dedupeNamed l H N rows positions normals references saved held edge =
-    named-or (left bad-number rows positions normals references saved held) edge (λ e.
-    cond (is-paired rows e) (dedupeAt l H N e rows positions normals references saved held) (left dead rows positions normals references saved held))
+dedupeNamed l H N rows positions normals references spare-halfedges spare-positions edge =
+    named-or (left bad-number rows positions normals references spare-halfedges spare-positions) edge (λ e.
+    cond (is-paired rows e) (dedupeAt l H N e rows positions normals references spare-halfedges spare-positions) (left dead rows positions normals references spare-halfedges spare-positions))
 
 unfoldable pub dedupeEdge : Counts → Net → List ℤ → List ℕ → ℤ → Left
-dedupeEdge c n saved held halfedge =
+dedupeEdge c n spare-halfedges spare-positions halfedge =
     cond (is-shaped c n)
-    (cond (spare-holds c saved held)
-    (past (sound-or (least-out (c .halfedges) (c .vertices) (n .halfedges))) (λ s. left s (n .halfedges) (n .positions) (n .normals) (n .references) saved held)
-    (dedupeNamed (limits-of c n) (c .halfedges) (c .vertices) (n .halfedges) (n .positions) (n .normals) (n .references) saved held (names halfedge (c .halfedges))))
-    (left short-buffer (n .halfedges) (n .positions) (n .normals) (n .references) saved held))
-    (left shape (n .halfedges) (n .positions) (n .normals) (n .references) saved held)
+    (cond (spare-holds c spare-halfedges spare-positions)
+    (past (sound-or (least-out (c .halfedges) (c .vertices) (n .halfedges))) (λ s. left s (n .halfedges) (n .positions) (n .normals) (n .references) spare-halfedges spare-positions)
+    (dedupeNamed (limits-of c n) (c .halfedges) (c .vertices) (n .halfedges) (n .positions) (n .normals) (n .references) spare-halfedges spare-positions (names halfedge (c .halfedges))))
+    (left short-buffer (n .halfedges) (n .positions) (n .normals) (n .references) spare-halfedges spare-positions))
+    (left shape (n .halfedges) (n .positions) (n .normals) (n .references) spare-halfedges spare-positions)

@@ -46,18 +46,18 @@ fn dedupe_settled(
     positions: &mut [u64],
     normals: &mut [u64],
     references: &mut [i32],
-    saved: &mut [i32],
-    held: &mut [u64],
+    spare_halfedges: &mut [i32],
+    spare_positions: &mut [u64],
     limits: Limits,
     halfedges: usize,
     vertices: usize,
     e: Halfedge,
 ) -> DedupeEdge
-    requires { ⌜ (halfedgeNumber e < halfedges) × (Fitting limits (begun halfedges vertices (now rows) (now positions) (now normals) (now references)) × ((halfedges ≤ lent-halfedges (now saved)) × (vertices ≤ lent-triples (now held)))) ⌝ }
-    ensures { λ r. ⌜ left (dedupeSaid r) (now (rows .exit)) (now (positions .exit)) (now (normals .exit)) (now (references .exit)) (now (saved .exit)) (now (held .exit)) ≡ dedupeAt limits halfedges vertices (halfedgeNumber e) (now (rows .entry)) (now (positions .entry)) (now (normals .entry)) (now (references .entry)) (now (saved .entry)) (now (held .entry)) ⌝ }
+    requires { ⌜ (halfedgeNumber e < halfedges) × (Fitting limits (begun halfedges vertices (now rows) (now positions) (now normals) (now references)) × ((halfedges ≤ lent-halfedges (now «spare_halfedges»)) × (vertices ≤ lent-triples (now «spare_positions»)))) ⌝ }
+    ensures { λ r. ⌜ left (dedupeSaid r) (now (rows .exit)) (now (positions .exit)) (now (normals .exit)) (now (references .exit)) (now («spare_halfedges» .exit)) (now («spare_positions» .exit)) ≡ dedupeAt limits halfedges vertices (halfedgeNumber e) (now (rows .entry)) (now (positions .entry)) (now (normals .entry)) (now (references .entry)) (now («spare_halfedges» .entry)) (now («spare_positions» .entry)) ⌝ }
 {
-    rows::halfedges::copy(rows, saved, halfedges);
-    rows::triples::copy(positions, held, vertices);
+    rows::halfedges::copy(rows, spare_halfedges, halfedges);
+    rows::triples::copy(positions, spare_positions, vertices);
     let grown = crate::dedupe_step(
         rows,
         positions,
@@ -72,8 +72,8 @@ fn dedupe_settled(
         positions,
         normals,
         references,
-        saved,
-        held,
+        spare_halfedges,
+        spare_positions,
         halfedges,
         vertices,
         limits,
@@ -88,15 +88,15 @@ fn dedupe_named(
     positions: &mut [u64],
     normals: &mut [u64],
     references: &mut [i32],
-    saved: &mut [i32],
-    held: &mut [u64],
+    spare_halfedges: &mut [i32],
+    spare_positions: &mut [u64],
     limits: Limits,
     halfedges: usize,
     vertices: usize,
     halfedge: i32,
 ) -> DedupeEdge
-    requires { ⌜ Fitting limits (begun halfedges vertices (now rows) (now positions) (now normals) (now references)) × ((halfedges ≤ lent-halfedges (now saved)) × (vertices ≤ lent-triples (now held))) ⌝ }
-    ensures { λ r. ⌜ left (dedupeSaid r) (now (rows .exit)) (now (positions .exit)) (now (normals .exit)) (now (references .exit)) (now (saved .exit)) (now (held .exit)) ≡ dedupeNamed limits halfedges vertices (now (rows .entry)) (now (positions .entry)) (now (normals .entry)) (now (references .entry)) (now (saved .entry)) (now (held .entry)) (names halfedge halfedges) ⌝ }
+    requires { ⌜ Fitting limits (begun halfedges vertices (now rows) (now positions) (now normals) (now references)) × ((halfedges ≤ lent-halfedges (now «spare_halfedges»)) × (vertices ≤ lent-triples (now «spare_positions»))) ⌝ }
+    ensures { λ r. ⌜ left (dedupeSaid r) (now (rows .exit)) (now (positions .exit)) (now (normals .exit)) (now (references .exit)) (now («spare_halfedges» .exit)) (now («spare_positions» .exit)) ≡ dedupeNamed limits halfedges vertices (now (rows .entry)) (now (positions .entry)) (now (normals .entry)) (now (references .entry)) (now («spare_halfedges» .entry)) (now («spare_positions» .entry)) (names halfedge halfedges) ⌝ }
 {
     let NamedHalfedge::At(e) = numbers::halfedge_given(halfedge, halfedges) else {
         return DedupeEdge::Number;
@@ -109,8 +109,8 @@ fn dedupe_named(
         positions,
         normals,
         references,
-        saved,
-        held,
+        spare_halfedges,
+        spare_positions,
         limits,
         halfedges,
         vertices,
@@ -126,11 +126,11 @@ pub fn dedupe_edge(
     normals: &mut [u64],
     references: &mut [i32],
     properties: &[u64],
-    saved: &mut [i32],
-    held: &mut [u64],
+    spare_halfedges: &mut [i32],
+    spare_positions: &mut [u64],
     halfedge: i32,
 ) -> DedupeEdge
-    ensures { λ r. ⌜ left (dedupeSaid r) (now (halfedges .exit)) (now (positions .exit)) (now (normals .exit)) (now (references .exit)) (now (saved .exit)) (now (held .exit)) ≡ dedupeEdge counts (net (now (halfedges .entry)) (now (positions .entry)) (now (normals .entry)) (now (references .entry)) (now (properties .entry))) (now (saved .entry)) (now (held .entry)) halfedge ⌝ }
+    ensures { λ r. ⌜ left (dedupeSaid r) (now (halfedges .exit)) (now (positions .exit)) (now (normals .exit)) (now (references .exit)) (now («spare_halfedges» .exit)) (now («spare_positions» .exit)) ≡ dedupeEdge counts (net (now (halfedges .entry)) (now (positions .entry)) (now (normals .entry)) (now (references .entry)) (now (properties .entry))) (now («spare_halfedges» .entry)) (now («spare_positions» .entry)) halfedge ⌝ }
 {
     if !net::shaped(
         counts,
@@ -142,7 +142,7 @@ pub fn dedupe_edge(
     ) {
         return DedupeEdge::Shape;
     }
-    if !net::spare_fits(counts, saved, held) {
+    if !net::spare_fits(counts, spare_halfedges, spare_positions) {
         return DedupeEdge::ShortBuffer;
     }
     let limits = settling::limits_of(counts, halfedges, positions, normals, references);
@@ -153,8 +153,8 @@ pub fn dedupe_edge(
             positions,
             normals,
             references,
-            saved,
-            held,
+            spare_halfedges,
+            spare_positions,
             limits,
             counts.halfedges,
             counts.vertices,

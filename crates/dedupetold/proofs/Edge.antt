@@ -40,7 +40,7 @@ use Rattle.dedupesound.proofs.Sounds.{SoundAfter, at-entry, Lacks, dedupe-sound
 use Rattle.dedupetold.specs.Told.{IsDone, in-use, EdgeEnded, edge-done, edge-full, Spared}
 use Rattle.dedupetold.proofs.Ends as E
 
-module _ (c : Counts) (n : Net) (saved : List ℤ) (held : List ℕ) (halfedge : ℤ) where
+module _ (c : Counts) (n : Net) (spare-halfedges : List ℤ) (spare-positions : List ℕ) (halfedge : ℤ) where
   abbrev H : ℕ
   H = c .halfedges
 
@@ -51,20 +51,20 @@ module _ (c : Counts) (n : Net) (saved : List ℤ) (held : List ℕ) (halfedge :
   rows = n .halfedges
 
   abbrev pub result : Left
-  result = dedupeEdge c n saved held halfedge
+  result = dedupeEdge c n spare-halfedges spare-positions halfedge
 
   abbrev said : Left → Said
   said o = o .said
 
   abbrev entry : Said → Left
-  entry s = left s rows (n .positions) (n .normals) (n .references) saved held
+  entry s = left s rows (n .positions) (n .normals) (n .references) spare-halfedges spare-positions
 
   -- the spare holds the rows in use
   abbrev pub Holds : Type 0
-  Holds = (H ≤ lent-halfedges saved) × (N ≤ lent-triples held)
+  Holds = (H ≤ lent-halfedges spare-halfedges) × (N ≤ lent-triples spare-positions)
 
   abbrev at-e : ℕ → Left
-  at-e e = dedupeAt (limits-of c n) H N e rows (n .positions) (n .normals) (n .references) saved held
+  at-e e = dedupeAt (limits-of c n) H N e rows (n .positions) (n .normals) (n .references) spare-halfedges spare-positions
 
   late : (e : ℕ) → Early (at-e e .said) → ⊥
   unfolding dedupeAt
@@ -75,11 +75,11 @@ module _ (c : Counts) (n : Net) (saved : List ℤ) (held : List ℕ) (halfedge :
   unfolding dedupeEdge dedupeNamed
   dedupe-refusals =
       long-refusals c n said entry (λ s. refl) Holds (Names H halfedge) (NamesLive c n halfedge)
-      (spare-holds c saved held) (is-named (names halfedge H)) (is-live c n (names halfedge H))
-      (told-both (told-least H (lent-halfedges saved)) (told-least N (lent-triples held))) (told-names H halfedge) (told-live c n halfedge)
-      (λ w. past (sound-or w) entry (dedupeNamed (limits-of c n) H N rows (n .positions) (n .normals) (n .references) saved held (names halfedge H))) (λ h. refl) (go (names halfedge H))
+      (spare-holds c spare-halfedges spare-positions) (is-named (names halfedge H)) (is-live c n (names halfedge H))
+      (told-both (told-least H (lent-halfedges spare-halfedges)) (told-least N (lent-triples spare-positions))) (told-names H halfedge) (told-live c n halfedge)
+      (λ w. past (sound-or w) entry (dedupeNamed (limits-of c n) H N rows (n .positions) (n .normals) (n .references) spare-halfedges spare-positions (names halfedge H))) (λ h. refl) (go (names halfedge H))
     where
-      go : (w : Named) → Begins said entry (dedupeNamed (limits-of c n) H N rows (n .positions) (n .normals) (n .references) saved held w) (checked true true nothing (is-named w) (is-live c n w))
+      go : (w : Named) → Begins said entry (dedupeNamed (limits-of c n) H N rows (n .positions) (n .normals) (n .references) spare-halfedges spare-positions w) (checked true true nothing (is-named w) (is-live c n w))
       go (at e) = by-test (is-paired rows e) (λ t. rw t (goes said entry (λ s. refl) _ (late e))) (λ t. rw t (stops said entry (λ s. refl) dead (λ z. omega arith)))
       go nothing = stops said entry (λ s. refl) bad-number (λ z. omega arith)
 
@@ -100,7 +100,7 @@ module _ (c : Counts) (n : Net) (saved : List ℤ) (held : List ℕ) (halfedge :
     passed =
         rw (
           shaped-true c n (sound .shaped),
-          both2 (told-least H (lent-halfedges saved) .back (holds .0)) (told-least N (lent-triples held) .back (holds .1)),
+          both2 (told-least H (lent-halfedges spare-halfedges) .back (holds .0)) (told-least N (lent-triples spare-positions) .back (holds .1)),
           E.checked c n sound,
           names-at halfedge H e is-e (le .in-use),
           live-paired H rows le,
@@ -126,9 +126,9 @@ module _ (c : Counts) (n : Net) (saved : List ℤ) (held : List ℕ) (halfedge :
         go (edge-done k m d o) = (k, m, (d, o))
         go (edge-full k m f r) = ⊎-elim (λ x. absurd (omega arith)) (λ x. absurd (omega arith)) r
 
-    pub dedupe-spared : Spared c n saved held (result .saved) (result .held)
+    pub dedupe-spared : Spared c n spare-halfedges spare-positions (result .spare-halfedges) (result .spare-positions)
     unfolding dedupeAt
-    dedupe-spared = rw passed (record { rows-saved = refl; positions-held = refl })
+    dedupe-spared = rw passed (record { halfedges-spared = refl; positions-spared = refl })
 
   edge-not-stopped : {e : ℕ} {after : Net} {s : Said} → EdgeEnded c n e after s → s .number ≡ 7 → ⊥
   edge-not-stopped (edge-done k m d left) z = E.done-not-stopped d z

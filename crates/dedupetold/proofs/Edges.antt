@@ -35,20 +35,20 @@ use Rattle.dedupetold.specs.Told.{Ended, Spared}
 use Rattle.dedupetold.proofs.Ends as E
 
 -- the spare holds the rows in use, and work buffer and list are long enough: so many entries, and one for each half-edge that there can be
-module _ (c : Counts) (n : Net) (long : ℕ) (saved : List ℤ) (held work list : List ℕ) where
+module _ (c : Counts) (n : Net) (long : ℕ) (spare-halfedges : List ℤ) (spare-positions work list : List ℕ) where
   abbrev pub LentEnough : Type 0
-  LentEnough = (((c .halfedges ≤ lent-halfedges saved) × (c .vertices ≤ lent-triples held)) × (long ≤ length work)) × (halfedge-capacity c n ≤ length list)
+  LentEnough = (((c .halfedges ≤ lent-halfedges spare-halfedges) × (c .vertices ≤ lent-triples spare-positions)) × (long ≤ length work)) × (halfedge-capacity c n ≤ length list)
 
   -- as the tests have it
   abbrev pub is-lent : Bool
-  is-lent = spare-holds c saved held && is-long (length work) long && is-long (length list) (halfedge-capacity c n)
+  is-lent = spare-holds c spare-halfedges spare-positions && is-long (length work) long && is-long (length list) (halfedge-capacity c n)
 
   pub told-lent : Tells is-lent LentEnough
   told-lent =
-      told-both (told-both (told-both (told-least (c .halfedges) (lent-halfedges saved)) (told-least (c .vertices) (lent-triples held))) (told-least long (length work)))
+      told-both (told-both (told-both (told-least (c .halfedges) (lent-halfedges spare-halfedges)) (told-least (c .vertices) (lent-triples spare-positions))) (told-least long (length work)))
       (told-least (halfedge-capacity c n) (length list))
 
-module _ (c : Counts) (n : Net) (saved : List ℤ) (held work list : List ℕ) where
+module _ (c : Counts) (n : Net) (spare-halfedges : List ℤ) (spare-positions work list : List ℕ) where
   abbrev H : ℕ
   H = c .halfedges
 
@@ -59,19 +59,19 @@ module _ (c : Counts) (n : Net) (saved : List ℤ) (held work list : List ℕ) w
   l = limits-of c n
 
   abbrev pub result : Left
-  result = dedupeEdges c n saved held work list
+  result = dedupeEdges c n spare-halfedges spare-positions work list
 
   abbrev said : Left → Said
   said o = o .said
 
   abbrev entry : Said → Left
-  entry s = as-lent s n saved held work list
+  entry s = as-lent s n spare-halfedges spare-positions work list
 
   abbrev Long : Type 0
-  Long = LentEnough c n (halfedge-capacity c n) saved held work list
+  Long = LentEnough c n (halfedge-capacity c n) spare-halfedges spare-positions work list
 
   abbrev at-rounds : Left
-  at-rounds = roundsAt l H N (n .halfedges) (n .positions) (n .normals) (n .references) saved held work list
+  at-rounds = roundsAt l H N (n .halfedges) (n .positions) (n .normals) (n .references) spare-halfedges spare-positions work list
 
   late : Early (at-rounds .said) → ⊥
   unfolding roundsAt
@@ -82,8 +82,8 @@ module _ (c : Counts) (n : Net) (saved : List ℤ) (held work list : List ℕ) w
   unfolding dedupeEdges
   edges-refusals =
       long-refusals c n said entry (λ s. refl) Long nothing-asked nothing-asked
-      (is-lent c n (halfedge-capacity c n) saved held work list) true true
-      (told-lent c n (halfedge-capacity c n) saved held work list) told-nothing told-nothing
+      (is-lent c n (halfedge-capacity c n) spare-halfedges spare-positions work list) true true
+      (told-lent c n (halfedge-capacity c n) spare-halfedges spare-positions work list) told-nothing told-nothing
       (λ w. past (sound-or w) entry at-rounds) (λ h. refl) (goes said entry (λ s. refl) at-rounds late)
 
   -- the net as it is left
@@ -97,7 +97,7 @@ module _ (c : Counts) (n : Net) (saved : List ℤ) (held work list : List ℕ) w
 
     passed : result ≡ at-rounds
     unfolding dedupeEdges
-    passed = rw (shaped-true c n (sound .shaped), told-lent c n (halfedge-capacity c n) saved held work list .back enough, E.checked c n sound)
+    passed = rw (shaped-true c n (sound .shaped), told-lent c n (halfedge-capacity c n) spare-halfedges spare-positions work list .back enough, E.checked c n sound)
 
     ended-there : Ended c n (net-left at-rounds) (at-rounds .said)
     unfolding roundsAt
@@ -106,9 +106,9 @@ module _ (c : Counts) (n : Net) (saved : List ℤ) (held work list : List ℕ) w
     pub edges-told : Ended c n (net-left result) (result .said)
     edges-told = rw passed ended-there
 
-    pub edges-spared : Spared c n saved held (result .saved) (result .held)
+    pub edges-spared : Spared c n spare-halfedges spare-positions (result .spare-halfedges) (result .spare-positions)
     unfolding roundsAt
-    edges-spared = rw passed (record { rows-saved = refl; positions-held = refl })
+    edges-spared = rw passed (record { halfedges-spared = refl; positions-spared = refl })
 
     -- work buffer and list read zero over the half-edge capacity, and are unchanged beyond
     pub edges-cleared : (result .work ≡ cleared (halfedge-capacity c n) work) × (result .list ≡ cleared (halfedge-capacity c n) list)

@@ -49,6 +49,6 @@ pub data EdgeEnded (c : Counts) (n : Net) (e : ℕ) (after : Net) (said : Said) 
   edge-full : (H N : ℕ) → IsFull c n after said H N → (vertex-capacity n < c .vertices + 2) ⊎ (halfedge-capacity c n < c .halfedges + 6) → EdgeEnded c n e after said
 
 -- the spares hold the rows in use as at entry
-pub record Spared (c : Counts) (n : Net) (saved : List ℤ) (held : List ℕ) (saved-then : List ℤ) (held-then : List ℕ) : Type 0 where
-  pub rows-saved : saved-then ≡ over-rows (c .halfedges) (n .halfedges) saved
-  pub positions-held : held-then ≡ over-triples (c .vertices) (n .positions) held
+pub record Spared (c : Counts) (n : Net) (spare-halfedges : List ℤ) (spare-positions : List ℕ) (spare-halfedges-then : List ℤ) (spare-positions-then : List ℕ) : Type 0 where
+  pub halfedges-spared : spare-halfedges-then ≡ over-rows (c .halfedges) (n .halfedges) spare-halfedges
+  pub positions-spared : spare-positions-then ≡ over-triples (c .vertices) (n .positions) spare-positions

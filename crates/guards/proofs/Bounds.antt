@@ -90,11 +90,11 @@ halfedge-capacity-bound c h f r l m k = go (eqb (c .references) 0) (eqb (c .norm
 
 module _ (c : Counts) (n : Net) (sound : Sound c n) (lent : 3000003 ≤ length (n .positions)) where
   -- form_loop has no room from 999,999 vertices on
-  pub form-loop-bound : (saved : List ℤ) (held : List ℕ) → c .halfedges ≤ lent-halfedges saved → c .vertices ≤ lent-triples held →
+  pub form-loop-bound : (spare-halfedges : List ℤ) (spare-positions : List ℕ) → c .halfedges ≤ lent-halfedges spare-halfedges → c .vertices ≤ lent-triples spare-positions →
       (a b : ℕ) → Live (c .halfedges) (n .halfedges) a → Live (c .halfedges) (n .halfedges) b →
-      (formLoop c n saved held (pos a) (pos b) .said ≡ no-room) ↔ (999999 ≤ c .vertices)
-  form-loop-bound saved held k l a b la lb =
-      let e = form-no-room c n sound saved held k l (pos a) (pos b) a b refl la refl lb in
+      (formLoop c n spare-halfedges spare-positions (pos a) (pos b) .said ≡ no-room) ↔ (999999 ≤ c .vertices)
+  form-loop-bound spare-halfedges spare-positions k l a b la lb =
+      let e = form-no-room c n sound spare-halfedges spare-positions k l (pos a) (pos b) a b refl la refl lb in
       let m = vertex-capacity-bound (n .positions) lent in
       (λ s. omega (arith, m, e .0 s), λ s. e .1 (omega (arith, m)))
 

@@ -22,17 +22,17 @@ pub record Case : Type 0 where
   pub vertices : ℕ
   pub rows : List ℤ
   pub positions : List ℕ
-  pub held : List ℕ
+  pub spare-positions : List ℕ
   pub first : ℤ
   pub second : ℤ
   pub leaves : Left
 
 -- on document 01's net P; and on any
 abbrev on-P : ℕ → List ℕ → List ℕ → ℤ → ℤ → Left → Case
-on-P h p s a b l = record { halfedges = h; vertices = 3; rows = P-rows; positions = p; held = s; first = a; second = b; leaves = l }
+on-P h p s a b l = record { halfedges = h; vertices = 3; rows = P-rows; positions = p; spare-positions = s; first = a; second = b; leaves = l }
 
 abbrev case : ℕ → ℕ → List ℤ → List ℕ → List ℕ → ℤ → ℤ → Left → Case
-case h v r p s a b l = record { halfedges = h; vertices = v; rows = r; positions = p; held = s; first = a; second = b; leaves = l }
+case h v r p s a b l = record { halfedges = h; vertices = v; rows = r; positions = p; spare-positions = s; first = a; second = b; leaves = l }
 
 -- three positions in use; and the free rows of room for one, and for two, with a number over
 abbrev places : List ℕ
@@ -73,8 +73,8 @@ blank = gone6 ++ gone6 ++ (pos 8 ∷ [])
 abbrev ones : List ℕ
 ones = 1 ∷ 1 ∷ 1 ∷ 1 ∷ 1 ∷ 1 ∷ 1 ∷ 1 ∷ 1 ∷ 1 ∷ 1 ∷ 1 ∷ 7 ∷ []
 
-abbrev saved : List ℤ
-saved = P-rows ++ gone6 ++ (pos 8 ∷ [])
+abbrev spare-halfedges : List ℤ
+spare-halfedges = P-rows ++ gone6 ++ (pos 8 ∷ [])
 
 abbrev kept : List ℕ
 kept = places ++ (1 ∷ 1 ∷ 1 ∷ 7 ∷ [])
@@ -82,16 +82,16 @@ kept = places ++ (1 ∷ 1 ∷ 1 ∷ 7 ∷ [])
 abbrev pub cases : List Case
 cases =
     -- the same half-edge twice, with room for two: done, P folds away and three vertices are lost
-    on-P 6 two-free ones (pos 0) (pos 0) (left (done (whole (pos 5) ∷ [])) gone6 ((n ∷ n ∷ n ∷ n ∷ n ∷ n ∷ n ∷ n ∷ n ∷ []) ++ (10 ∷ 11 ∷ 12 ∷ 20 ∷ 21 ∷ 22 ∷ 96 ∷ [])) saved kept)
+    on-P 6 two-free ones (pos 0) (pos 0) (left (done (whole (pos 5) ∷ [])) gone6 ((n ∷ n ∷ n ∷ n ∷ n ∷ n ∷ n ∷ n ∷ n ∷ []) ++ (10 ∷ 11 ∷ 12 ∷ 20 ∷ 21 ∷ 22 ∷ 96 ∷ [])) spare-halfedges kept)
     -- two edges between 0 and 1: the second pillow gets vertices 4 and 5 there and closes, as does the first; then it folds away
     ∷ case 12 4 pillows three-free ones (pos 0) (pos 9) (left (done (whole (pos 6) ∷ [])) (P-rows ++ gone6) (places ++ (n ∷ n ∷ n ∷ n ∷ n ∷ n ∷ n ∷ n ∷ n ∷ [])) (pillows ++ (pos 8 ∷ [])) (places ++ (90 ∷ 91 ∷ 92 ∷ 7 ∷ [])))
     -- one row short: the row that was filled reads zero; two short: none was filled
-    ∷ on-P 6 one-free ones (pos 0) (pos 0) (left no-room P-rows (places ++ (0 ∷ 0 ∷ 0 ∷ [])) saved kept)
-    ∷ on-P 6 places ones (pos 0) (pos 0) (left no-room P-rows places saved kept)
+    ∷ on-P 6 one-free ones (pos 0) (pos 0) (left no-room P-rows (places ++ (0 ∷ 0 ∷ 0 ∷ [])) spare-halfedges kept)
+    ∷ on-P 6 places ones (pos 0) (pos 0) (left no-room P-rows places spare-halfedges kept)
     -- a walk that never ends: from the partner of 0 towards that of 1 it goes 3, 0, 3 and so on
-    ∷ on-P 6 two-free ones (pos 0) (pos 1) (left stopped P-rows (places ++ (0 ∷ 0 ∷ 0 ∷ 0 ∷ 0 ∷ 0 ∷ 96 ∷ [])) saved kept)
+    ∷ on-P 6 two-free ones (pos 0) (pos 1) (left stopped P-rows (places ++ (0 ∷ 0 ∷ 0 ∷ 0 ∷ 0 ∷ 0 ∷ 96 ∷ [])) spare-halfedges kept)
     -- no room comes before a walk that never ends
-    ∷ on-P 6 one-free ones (pos 0) (pos 1) (left no-room P-rows (places ++ (0 ∷ 0 ∷ 0 ∷ [])) saved kept)
+    ∷ on-P 6 one-free ones (pos 0) (pos 1) (left no-room P-rows (places ++ (0 ∷ 0 ∷ 0 ∷ [])) spare-halfedges kept)
     -- before the steps nothing is changed: either half-edge dead; a number; a row out of order; a spare that is too short; a shape
     ∷ case 9 3 half-dead two-free ones (pos 0) (pos 3) (left dead half-dead two-free blank ones)
     ∷ case 9 3 half-dead two-free ones (pos 3) (pos 2) (left dead half-dead two-free blank ones)
@@ -102,6 +102,6 @@ cases =
     ∷ on-P 5 two-free [] (pos 6) (pos 0) (left shape P-rows two-free blank [])
     ∷ []
 
-pub cases-hold : map (λ (k : Case). formLoop (counts (k .halfedges) (k .vertices)) (bare (k .rows) (k .positions)) blank (k .held) (k .first) (k .second)) cases ≡ map (λ (k : Case). k .leaves) cases
+pub cases-hold : map (λ (k : Case). formLoop (counts (k .halfedges) (k .vertices)) (bare (k .rows) (k .positions)) blank (k .spare-positions) (k .first) (k .second)) cases ≡ map (λ (k : Case). k .leaves) cases
 unfolding formLoop formNamed formAt loop-at cross cross-at exchange copy append update walk onward moved fold fold-at take-out clear cleared join joined has-pair lose-folded lose paired triple put-triple over-triples zero-triples over-rows column set-column next is-live in-order first-failing is-shaped triangle-capacity-over vertex-capacity-over property-capacity-over
 cases-hold = refl

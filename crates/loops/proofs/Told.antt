@@ -17,12 +17,12 @@ use Rattle.loops.specs.Loops.{loop-at}
 use Rattle.loops.specs.FormLoop.{Left, left, formSaid, formAt, formLoop}
 
 -- 6 or 7: the half-edge rows are as at entry, and of the positions only the free rows that the steps had filled are changed: they read zero
-pub form-refused : (H N capacity a b : ℕ) (rows : List ℤ) (positions : List ℕ) (saved : List ℤ) (held : List ℕ) →
+pub form-refused : (H N capacity a b : ℕ) (rows : List ℤ) (positions : List ℕ) (spare-halfedges : List ℤ) (spare-positions : List ℕ) →
     refused (loop-at H capacity a b (begin rows positions N)) ≡ true →
-    (formAt H N capacity a b rows positions saved held .halfedges ≡ rows)
-    × (formAt H N capacity a b rows positions saved held .positions ≡ zero-triples N (loop-at H capacity a b (begin rows positions N) .run .vertices) positions)
+    (formAt H N capacity a b rows positions spare-halfedges spare-positions .halfedges ≡ rows)
+    × (formAt H N capacity a b rows positions spare-halfedges spare-positions .positions ≡ zero-triples N (loop-at H capacity a b (begin rows positions N) .run .vertices) positions)
 unfolding formAt
-form-refused H N capacity a b rows positions saved held t = (rw t, rw t)
+form-refused H N capacity a b rows positions spare-halfedges spare-positions t = (rw t, rw t)
 
 -- the answer, read back from what is said
 abbrev answer-of : Said → FormLoop
@@ -45,9 +45,9 @@ told F.Dead = refl
 told F.NoRoom = refl
 told F.Stopped = refl
 
-pub form-agree : (c : Counts) (n : Net) (saved : List ℤ) (held : List ℕ) (first second : ℤ) (a b : FormLoop) (h k : List ℤ) (p q : List ℕ) (sh tk : List ℤ) (sp tq : List ℕ) →
-    left (formSaid a) h p sh sp ≡ formLoop c n saved held first second → left (formSaid b) k q tk tq ≡ formLoop c n saved held first second →
+pub form-agree : (c : Counts) (n : Net) (spare-halfedges : List ℤ) (spare-positions : List ℕ) (first second : ℤ) (a b : FormLoop) (h k : List ℤ) (p q : List ℕ) (sh tk : List ℤ) (sp tq : List ℕ) →
+    left (formSaid a) h p sh sp ≡ formLoop c n spare-halfedges spare-positions first second → left (formSaid b) k q tk tq ≡ formLoop c n spare-halfedges spare-positions first second →
     (a ≡ b) × ((h ≡ k) × ((p ≡ q) × ((sh ≡ tk) × (sp ≡ tq))))
-form-agree c n saved held first second a b h k p q sh tk sp tq x y =
+form-agree c n spare-halfedges spare-positions first second a b h k p q sh tk sp tq x y =
     let e = x ∙ sym y in
-    (read-back formSaid answer-of told a b (ap (λ (o : Left). o .said) e), (ap (λ (o : Left). o .halfedges) e, (ap (λ (o : Left). o .positions) e, (ap (λ (o : Left). o .saved) e, ap (λ (o : Left). o .held) e))))
+    (read-back formSaid answer-of told a b (ap (λ (o : Left). o .said) e), (ap (λ (o : Left). o .halfedges) e, (ap (λ (o : Left). o .positions) e, (ap (λ (o : Left). o .spare-halfedges) e, ap (λ (o : Left). o .spare-positions) e))))

@@ -38,32 +38,32 @@ pub record Left : Type 0 where
   pub said : Said
   pub halfedges : List ℤ
   pub positions : List ℕ
-  pub saved : List ℤ
-  pub held : List ℕ
+  pub spare-halfedges : List ℤ
+  pub spare-positions : List ℕ
 
 abbrev pub left : Said → List ℤ → List ℕ → List ℤ → List ℕ → Left
-left s h p sh sp = record { said = s; halfedges = h; positions = p; saved = sh; held = sp }
+left s h p sh sp = record { said = s; halfedges = h; positions = p; spare-halfedges = sh; spare-positions = sp }
 
 abbrev pub left-by : List ℤ → List ℕ → Middle → Left
-left-by saved held m = left (runSaid (m .run)) (m .halfedges) (m .positions) saved held
+left-by spare-halfedges spare-positions m = left (runSaid (m .run)) (m .halfedges) (m .positions) spare-halfedges spare-positions
 
 -- past the checks: the spare holds the rows in use as at entry
 unfoldable pub formAt : ℕ → ℕ → ℕ → ℕ → ℕ → List ℤ → List ℕ → List ℤ → List ℕ → Left
-formAt H N capacity a b rows positions saved held =
-    left-by (over-rows H rows saved) (over-triples N positions held) (settled N rows positions (loop-at H capacity a b (begin rows positions N)))
+formAt H N capacity a b rows positions spare-halfedges spare-positions =
+    left-by (over-rows H rows spare-halfedges) (over-triples N positions spare-positions) (settled N rows positions (loop-at H capacity a b (begin rows positions N)))
 
 unfoldable pub formNamed : ℕ → ℕ → List ℤ → List ℕ → List ℤ → List ℕ → Named → Named → Left
-formNamed H N rows positions saved held first second =
-    named-or (left bad-number rows positions saved held) first (λ a.
-    named-or (left bad-number rows positions saved held) second (λ b.
-    cond (is-paired rows a && is-paired rows b) (formAt H N (vertex-capacity-over positions) a b rows positions saved held)
-    (left dead rows positions saved held)))
+formNamed H N rows positions spare-halfedges spare-positions first second =
+    named-or (left bad-number rows positions spare-halfedges spare-positions) first (λ a.
+    named-or (left bad-number rows positions spare-halfedges spare-positions) second (λ b.
+    cond (is-paired rows a && is-paired rows b) (formAt H N (vertex-capacity-over positions) a b rows positions spare-halfedges spare-positions)
+    (left dead rows positions spare-halfedges spare-positions)))
 
 unfoldable pub formLoop : Counts → Net → List ℤ → List ℕ → ℤ → ℤ → Left
-formLoop c n saved held first second =
+formLoop c n spare-halfedges spare-positions first second =
     cond (is-shaped c n)
-    (cond (spare-holds c saved held)
-    (past (sound-or (least-out (c .halfedges) (c .vertices) (n .halfedges))) (λ s. left s (n .halfedges) (n .positions) saved held)
-    (formNamed (c .halfedges) (c .vertices) (n .halfedges) (n .positions) saved held (names first (c .halfedges)) (names second (c .halfedges))))
-    (left short-buffer (n .halfedges) (n .positions) saved held))
-    (left shape (n .halfedges) (n .positions) saved held)
+    (cond (spare-holds c spare-halfedges spare-positions)
+    (past (sound-or (least-out (c .halfedges) (c .vertices) (n .halfedges))) (λ s. left s (n .halfedges) (n .positions) spare-halfedges spare-positions)
+    (formNamed (c .halfedges) (c .vertices) (n .halfedges) (n .positions) spare-halfedges spare-positions (names first (c .halfedges)) (names second (c .halfedges))))
+    (left short-buffer (n .halfedges) (n .positions) spare-halfedges spare-positions))
+    (left shape (n .halfedges) (n .positions) spare-halfedges spare-positions)

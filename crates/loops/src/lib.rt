@@ -181,19 +181,19 @@ fn answer(run: Run) -> FormLoop
 fn form_at(
     rows: &mut [i32],
     positions: &mut [u64],
-    saved: &mut [i32],
-    held: &mut [u64],
+    spare_halfedges: &mut [i32],
+    spare_positions: &mut [u64],
     halfedges: usize,
     vertices: usize,
     capacity: usize,
     a: Halfedge,
     b: Halfedge,
 ) -> FormLoop
-    requires { ⌜ ((halfedgeNumber a < halfedges) × (halfedgeNumber b < halfedges)) × (InUse halfedges (now rows) × ((vertices ≤ capacity) × (VerticesIn capacity (now positions) × ((halfedges ≤ lent-halfedges (now saved)) × (vertices ≤ lent-triples (now held)))))) ⌝ }
-    ensures { λ r. ⌜ left (formSaid r) (now (rows .exit)) (now (positions .exit)) (now (saved .exit)) (now (held .exit)) ≡ formAt halfedges vertices capacity (halfedgeNumber a) (halfedgeNumber b) (now (rows .entry)) (now (positions .entry)) (now (saved .entry)) (now (held .entry)) ⌝ }
+    requires { ⌜ ((halfedgeNumber a < halfedges) × (halfedgeNumber b < halfedges)) × (InUse halfedges (now rows) × ((vertices ≤ capacity) × (VerticesIn capacity (now positions) × ((halfedges ≤ lent-halfedges (now «spare_halfedges»)) × (vertices ≤ lent-triples (now «spare_positions»)))))) ⌝ }
+    ensures { λ r. ⌜ left (formSaid r) (now (rows .exit)) (now (positions .exit)) (now («spare_halfedges» .exit)) (now («spare_positions» .exit)) ≡ formAt halfedges vertices capacity (halfedgeNumber a) (halfedgeNumber b) (now (rows .entry)) (now (positions .entry)) (now («spare_halfedges» .entry)) (now («spare_positions» .entry)) ⌝ }
 {
-    rows::halfedges::copy(rows, saved, halfedges);
-    rows::triples::copy(positions, held, vertices);
+    rows::halfedges::copy(rows, spare_halfedges, halfedges);
+    rows::triples::copy(positions, spare_positions, vertices);
     let run = loop_step(
         rows,
         positions,
@@ -203,7 +203,15 @@ fn form_at(
         a,
         b,
     );
-    steps::settle(rows, positions, saved, held, halfedges, vertices, run);
+    steps::settle(
+        rows,
+        positions,
+        spare_halfedges,
+        spare_positions,
+        halfedges,
+        vertices,
+        run,
+    );
     answer(run)
 }
 
@@ -211,15 +219,15 @@ fn form_at(
 fn form_named(
     rows: &mut [i32],
     positions: &mut [u64],
-    saved: &mut [i32],
-    held: &mut [u64],
+    spare_halfedges: &mut [i32],
+    spare_positions: &mut [u64],
     halfedges: usize,
     vertices: usize,
     first: i32,
     second: i32,
 ) -> FormLoop
-    requires { ⌜ InUse halfedges (now rows) × ((vertices ≤ vertex-capacity-over (now positions)) × ((halfedges ≤ lent-halfedges (now saved)) × (vertices ≤ lent-triples (now held)))) ⌝ }
-    ensures { λ r. ⌜ left (formSaid r) (now (rows .exit)) (now (positions .exit)) (now (saved .exit)) (now (held .exit)) ≡ formNamed halfedges vertices (now (rows .entry)) (now (positions .entry)) (now (saved .entry)) (now (held .entry)) (names first halfedges) (names second halfedges) ⌝ }
+    requires { ⌜ InUse halfedges (now rows) × ((vertices ≤ vertex-capacity-over (now positions)) × ((halfedges ≤ lent-halfedges (now «spare_halfedges»)) × (vertices ≤ lent-triples (now «spare_positions»)))) ⌝ }
+    ensures { λ r. ⌜ left (formSaid r) (now (rows .exit)) (now (positions .exit)) (now («spare_halfedges» .exit)) (now («spare_positions» .exit)) ≡ formNamed halfedges vertices (now (rows .entry)) (now (positions .entry)) (now («spare_halfedges» .entry)) (now («spare_positions» .entry)) (names first halfedges) (names second halfedges) ⌝ }
 {
     let NamedHalfedge::At(a) = numbers::halfedge_given(first, halfedges) else {
         return FormLoop::Number;
@@ -234,8 +242,8 @@ fn form_named(
     form_at(
         rows,
         positions,
-        saved,
-        held,
+        spare_halfedges,
+        spare_positions,
         halfedges,
         vertices,
         capacity,
@@ -252,12 +260,12 @@ pub fn form_loop(
     normals: &[u64],
     references: &[i32],
     properties: &[u64],
-    saved: &mut [i32],
-    held: &mut [u64],
+    spare_halfedges: &mut [i32],
+    spare_positions: &mut [u64],
     first: i32,
     second: i32,
 ) -> FormLoop
-    ensures { λ r. ⌜ left (formSaid r) (now (halfedges .exit)) (now (positions .exit)) (now (saved .exit)) (now (held .exit)) ≡ formLoop counts (net (now (halfedges .entry)) (now (positions .entry)) (now (normals .entry)) (now (references .entry)) (now (properties .entry))) (now (saved .entry)) (now (held .entry)) first second ⌝ }
+    ensures { λ r. ⌜ left (formSaid r) (now (halfedges .exit)) (now (positions .exit)) (now («spare_halfedges» .exit)) (now («spare_positions» .exit)) ≡ formLoop counts (net (now (halfedges .entry)) (now (positions .entry)) (now (normals .entry)) (now (references .entry)) (now (properties .entry))) (now («spare_halfedges» .entry)) (now («spare_positions» .entry)) first second ⌝ }
 {
     if !net::shaped(
         counts,
@@ -269,7 +277,7 @@ pub fn form_loop(
     ) {
         return FormLoop::Shape;
     }
-    if !net::spare_fits(counts, saved, held) {
+    if !net::spare_fits(counts, spare_halfedges, spare_positions) {
         return FormLoop::ShortBuffer;
     }
     match soundness::first_out(halfedges, counts.halfedges, counts.vertices) {
@@ -277,8 +285,8 @@ pub fn form_loop(
         NamedHalfedge::Nothing => form_named(
             halfedges,
             positions,
-            saved,
-            held,
+            spare_halfedges,
+            spare_positions,
             counts.halfedges,
             counts.vertices,
             first,

@@ -44,7 +44,7 @@ said-done u W.Going k e = (refl, let v = values-agree e in let q : pos u ≡ pos
 said-done u W.NoRoom k e = numbers-differ e (λ z. omega arith)
 said-done u W.Stopped k e = numbers-differ e (λ z. omega arith)
 
-module _ (c : Counts) (n : Net) (sound : Sound c n) (saved : List ℤ) (held : List ℕ) (k : ℕ) where
+module _ (c : Counts) (n : Net) (sound : Sound c n) (spare-halfedges : List ℤ) (spare-positions : List ℕ) (k : ℕ) where
   abbrev H : ℕ
   H = c .halfedges
 
@@ -77,7 +77,7 @@ module _ (c : Counts) (n : Net) (sound : Sound c n) (saved : List ℤ) (held : L
           in-order = rw is-k (loop-in-order H N capacity rows (n .positions) (w .halfedges-thirds) (w .halfedges-lent) (sound .in-order) (z .vertices-lent) (z .vertices-most) (sound .shaped .vertices-fit) a b la lb t);
         }
 
-    at-two : Good (formAt H N capacity a b rows (n .positions) saved held)
+    at-two : Good (formAt H N capacity a b rows (n .positions) spare-halfedges spare-positions)
     unfolding formAt
     at-two e =
         by-test (refused out)
@@ -86,15 +86,15 @@ module _ (c : Counts) (n : Net) (sound : Sound c n) (saved : List ℤ) (held : L
 
   -- whenever form_loop is done: with the rows and positions that it leaves, and the vertices that it says are in use
   pub form-sound : (first second : ℤ) →
-      formLoop c n saved held first second .said ≡ done (whole (pos k) ∷ []) →
-      Sound (with-vertices c k) (net (formLoop c n saved held first second .halfedges) (formLoop c n saved held first second .positions) (n .normals) (n .references) (n .properties))
+      formLoop c n spare-halfedges spare-positions first second .said ≡ done (whole (pos k) ∷ []) →
+      Sound (with-vertices c k) (net (formLoop c n spare-halfedges spare-positions first second .halfedges) (formLoop c n spare-halfedges spare-positions first second .positions) (n .normals) (n .references) (n .properties))
   unfolding formLoop formNamed checkNet
   form-sound first second =
       let checked : sound-or (least-out H N rows) ≡ done [] = rw (shaped-true c n (sound .shaped)) at (check-sound c n .1 sound) in
       rw (shaped-true c n (sound .shaped), checked)
-      (by-test (spare-holds c saved held) (λ t. rw t (go (names first H) refl (names second H) refl)) (λ t. rw t (λ e. numbers-differ e (λ z. omega arith))))
+      (by-test (spare-holds c spare-halfedges spare-positions) (λ t. rw t (go (names first H) refl (names second H) refl)) (λ t. rw t (λ e. numbers-differ e (λ z. omega arith))))
     where
-      go : (v : Named) → names first H ≡ v → (w : Named) → names second H ≡ w → Good (formNamed H N rows (n .positions) saved held v w)
+      go : (v : Named) → names first H ≡ v → (w : Named) → names second H ≡ w → Good (formNamed H N rows (n .positions) spare-halfedges spare-positions v w)
       go nothing s w t = λ e. numbers-differ e (λ z. omega arith)
       go (at a) s nothing t = λ e. numbers-differ e (λ z. omega arith)
       go (at a) s (at b) t =
@@ -103,22 +103,22 @@ module _ (c : Counts) (n : Net) (sound : Sound c n) (saved : List ℤ) (held : L
           (λ u. rw u (λ e. numbers-differ e (λ z. omega arith)))
 
 -- a sound net, spares that are long enough and two live half-edges: done, no room or stopped
-module _ (c : Counts) (n : Net) (sound : Sound c n) (saved : List ℤ) (held : List ℕ) (saved-long : c .halfedges ≤ lent-halfedges saved) (held-long : c .vertices ≤ lent-triples held)
+module _ (c : Counts) (n : Net) (sound : Sound c n) (spare-halfedges : List ℤ) (spare-positions : List ℕ) (spare-halfedges-long : c .halfedges ≤ lent-halfedges spare-halfedges) (spare-positions-long : c .vertices ≤ lent-triples spare-positions)
     (first second : ℤ) (a b : ℕ) (is-a : first ≡ pos a) (la : Live (c .halfedges) (n .halfedges) a) (is-b : second ≡ pos b) (lb : Live (c .halfedges) (n .halfedges) b) where
   abbrev result : Left
-  result = formLoop c n saved held first second
+  result = formLoop c n spare-halfedges spare-positions first second
 
   abbrev room-for : ℕ
   room-for = vertex-capacity-over (n .positions)
 
-  comes-to : result ≡ formAt (c .halfedges) (c .vertices) room-for a b (n .halfedges) (n .positions) saved held
+  comes-to : result ≡ formAt (c .halfedges) (c .vertices) room-for a b (n .halfedges) (n .positions) spare-halfedges spare-positions
   unfolding formLoop formNamed checkNet
   comes-to =
       let checked : sound-or (least-out (c .halfedges) (c .vertices) (n .halfedges)) ≡ done [] = rw (shaped-true c n (sound .shaped)) at (check-sound c n .1 sound) in
       rw (
         shaped-true c n (sound .shaped),
-        le-leb (c .halfedges) (lent-halfedges saved) saved-long,
-        le-leb (c .vertices) (lent-triples held) held-long,
+        le-leb (c .halfedges) (lent-halfedges spare-halfedges) spare-halfedges-long,
+        le-leb (c .vertices) (lent-triples spare-positions) spare-positions-long,
         checked,
         names-at first (c .halfedges) a is-a (la .in-use),
         names-at second (c .halfedges) b is-b (lb .in-use),
@@ -135,7 +135,7 @@ module _ (c : Counts) (n : Net) (sound : Sound c n) (saved : List ℤ) (held : L
       rw comes-to (go (comes (c .halfedges) (c .vertices) room-for (n .halfedges) (n .positions) (w .halfedges-thirds) (w .halfedges-lent) (sound .in-order) (z .vertices-lent) (z .vertices-most) (sound .shaped .vertices-fit) a b la lb))
     where
       go : Comes (c .halfedges) (c .vertices) room-for (n .halfedges) (n .positions) (within c n (sound .shaped) .halfedges-thirds) (within c n (sound .shaped) .halfedges-lent) (sound .in-order) (capacities c n .vertices-lent) (capacities c n .vertices-most) (sound .shaped .vertices-fit) a b la lb →
-          Formed (c .halfedges) (c .vertices) room-for a b (n .halfedges) (n .positions) (formAt (c .halfedges) (c .vertices) room-for a b (n .halfedges) (n .positions) saved held)
+          Formed (c .halfedges) (c .vertices) room-for a b (n .halfedges) (n .positions) (formAt (c .halfedges) (c .vertices) room-for a b (n .halfedges) (n .positions) spare-halfedges spare-positions)
       go (S.no-room few e) = full (record { said = rw e; few = few; rows-kept = rw e; filled-zero = rw e })
       go (S.stopped room not-reached e) = halted (record { said = rw e; room = room; not-reached = not-reached; rows-kept = rw e; filled-zero = rw e })
       go (S.goes g) = let e = g .runs in looped (record {
@@ -151,9 +151,9 @@ module _ (c : Counts) (n : Net) (sound : Sound c n) (saved : List ℤ) (held : L
         removed = rw e (g .removed-there);
       })
 
-  pub form-spared : Spared (c .halfedges) (c .vertices) (n .halfedges) (n .positions) saved held result
+  pub form-spared : Spared (c .halfedges) (c .vertices) (n .halfedges) (n .positions) spare-halfedges spare-positions result
   unfolding formAt
-  form-spared = rw comes-to (record { rows-saved = refl; positions-held = refl })
+  form-spared = rw comes-to (record { halfedges-spared = refl; positions-spared = refl })
 
   -- so each is said exactly when its reason holds
   abbrev both-reached : Type 0
@@ -205,29 +205,29 @@ steps-say u W.NoRoom a b = omega arith
 steps-say u W.Stopped a b = omega arith
 
 -- where form_loop says 1 to 5, everything lent to it is as at entry
-module _ (c : Counts) (n : Net) (saved : List ℤ) (held : List ℕ) (first second : ℤ) where
+module _ (c : Counts) (n : Net) (spare-halfedges : List ℤ) (spare-positions : List ℕ) (first second : ℤ) where
   abbrev Kept : Left → Type 0
-  Kept o = 0 < o .said .number → o .said .number < 6 → o ≡ left (o .said) (n .halfedges) (n .positions) saved held
+  Kept o = 0 < o .said .number → o .said .number < 6 → o ≡ left (o .said) (n .halfedges) (n .positions) spare-halfedges spare-positions
 
-  pub form-unchanged : Kept (formLoop c n saved held first second)
+  pub form-unchanged : Kept (formLoop c n spare-halfedges spare-positions first second)
   unfolding formLoop formNamed formAt
   form-unchanged =
       by-test (is-shaped c n)
-      (λ t. rw t (by-test (spare-holds c saved held)
+      (λ t. rw t (by-test (spare-holds c spare-halfedges spare-positions)
       (λ u. rw u (by-test (eqb (sound-or (least-out (c .halfedges) (c .vertices) (n .halfedges)) .number) 0)
       (λ v. rw v (go (names first (c .halfedges)) (names second (c .halfedges))))
       (λ v. rw v (λ x y. refl))))
       (λ u. rw u (λ x y. refl))))
       (λ t. rw t (λ x y. refl))
     where
-      past : (a b : ℕ) → Kept (formAt (c .halfedges) (c .vertices) (vertex-capacity-over (n .positions)) a b (n .halfedges) (n .positions) saved held)
+      past : (a b : ℕ) → Kept (formAt (c .halfedges) (c .vertices) (vertex-capacity-over (n .positions)) a b (n .halfedges) (n .positions) spare-halfedges spare-positions)
       past a b =
           let m = loop-at (c .halfedges) (vertex-capacity-over (n .positions)) a b (begin (n .halfedges) (n .positions) (c .vertices)) in
           by-test (refused m)
           (λ t. rw t (λ x y. absurd (steps-say (m .run .vertices) (m .run .how) x y)))
           (λ t. rw t (λ x y. absurd (steps-say (m .run .vertices) (m .run .how) x y)))
 
-      go : (v w : Named) → Kept (formNamed (c .halfedges) (c .vertices) (n .halfedges) (n .positions) saved held v w)
+      go : (v w : Named) → Kept (formNamed (c .halfedges) (c .vertices) (n .halfedges) (n .positions) spare-halfedges spare-positions v w)
       go nothing w = λ x y. refl
       go (at a) nothing = λ x y. refl
       go (at a) (at b) =

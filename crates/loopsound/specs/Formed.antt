@@ -77,6 +77,6 @@ pub data Formed (H N capacity a b : ℕ) (rows : List ℤ) (positions : List ℕ
   halted : Stopped N capacity a b rows positions o → Formed H N capacity a b rows positions o
 
 -- the spares hold the rows in use as at entry
-pub record Spared (H N : ℕ) (rows : List ℤ) (positions : List ℕ) (saved : List ℤ) (held : List ℕ) (o : Left) : Type 0 where
-  pub rows-saved : o .saved ≡ over-rows H rows saved
-  pub positions-held : o .held ≡ over-triples N positions held
+pub record Spared (H N : ℕ) (rows : List ℤ) (positions : List ℕ) (spare-halfedges : List ℤ) (spare-positions : List ℕ) (o : Left) : Type 0 where
+  pub halfedges-spared : o .spare-halfedges ≡ over-rows H rows spare-halfedges
+  pub positions-spared : o .spare-positions ≡ over-triples N positions spare-positions

@@ -118,34 +118,34 @@ module _ (c : Counts) (n : Net) where
           (λ t. rw t (stops said-first (λ s. (s, (rows, n .positions))) (λ s. refl) dead (λ z. omega arith)))
       go nothing = stops said-first (λ s. (s, (rows, n .positions))) (λ s. refl) bad-number (λ z. omega arith)
 
-  module _ (saved : List ℤ) (held : List ℕ) where
+  module _ (spare-halfedges : List ℤ) (spare-positions : List ℕ) where
     abbrev said-left : Left → Said
     said-left o = o .said
 
     abbrev at-entry : Said → Left
-    at-entry s = left s rows (n .positions) saved held
+    at-entry s = left s rows (n .positions) spare-halfedges spare-positions
 
     steps-late : (u : ℕ) (w : How) → Early (how-said u w) → ⊥
     steps-late u W.Going = λ e. omega (arith, e .0)
     steps-late u W.NoRoom = λ e. omega (arith, e .1)
     steps-late u W.Stopped = λ e. omega (arith, e .1)
 
-    form-late : (a b : ℕ) → Early (formAt H N (vertex-capacity-over (n .positions)) a b rows (n .positions) saved held .said) → ⊥
+    form-late : (a b : ℕ) → Early (formAt H N (vertex-capacity-over (n .positions)) a b rows (n .positions) spare-halfedges spare-positions .said) → ⊥
     unfolding formAt
     form-late a b =
         let m = loop-at H (vertex-capacity-over (n .positions)) a b (begin rows (n .positions) N) in
         by-test (refused m) (λ t. rw t (steps-late (m .run .vertices) (m .run .how))) (λ t. rw t (steps-late (m .run .vertices) (m .run .how)))
 
     pub form-loop : (first second : ℤ) →
-        Refusals (of-sound c n ((H ≤ lent-halfedges saved) × (N ≤ lent-triples held)) (Names H first × Names H second) (NamesLive c n first × NamesLive c n second)) said-left at-entry (formLoop c n saved held first second)
+        Refusals (of-sound c n ((H ≤ lent-halfedges spare-halfedges) × (N ≤ lent-triples spare-positions)) (Names H first × Names H second) (NamesLive c n first × NamesLive c n second)) said-left at-entry (formLoop c n spare-halfedges spare-positions first second)
     unfolding formLoop formNamed
     form-loop first second =
-        long-refusals c n said-left at-entry (λ s. refl) ((H ≤ lent-halfedges saved) × (N ≤ lent-triples held)) (Names H first × Names H second) (NamesLive c n first × NamesLive c n second)
-        (spare-holds c saved held) (is-named (names first H) && is-named (names second H)) (is-live c n (names first H) && is-live c n (names second H))
-        (told-both (told-least H (lent-halfedges saved)) (told-least N (lent-triples held))) (told-both (told-names H first) (told-names H second)) (told-both (told-live c n first) (told-live c n second))
-        (λ w. past (sound-or w) at-entry (formNamed H N rows (n .positions) saved held (names first H) (names second H))) (λ h. refl) (go (names first H) (names second H))
+        long-refusals c n said-left at-entry (λ s. refl) ((H ≤ lent-halfedges spare-halfedges) × (N ≤ lent-triples spare-positions)) (Names H first × Names H second) (NamesLive c n first × NamesLive c n second)
+        (spare-holds c spare-halfedges spare-positions) (is-named (names first H) && is-named (names second H)) (is-live c n (names first H) && is-live c n (names second H))
+        (told-both (told-least H (lent-halfedges spare-halfedges)) (told-least N (lent-triples spare-positions))) (told-both (told-names H first) (told-names H second)) (told-both (told-live c n first) (told-live c n second))
+        (λ w. past (sound-or w) at-entry (formNamed H N rows (n .positions) spare-halfedges spare-positions (names first H) (names second H))) (λ h. refl) (go (names first H) (names second H))
       where
-        go : (v w : Named) → Begins said-left at-entry (formNamed H N rows (n .positions) saved held v w) (checked true true nothing (is-named v && is-named w) (is-live c n v && is-live c n w))
+        go : (v w : Named) → Begins said-left at-entry (formNamed H N rows (n .positions) spare-halfedges spare-positions v w) (checked true true nothing (is-named v && is-named w) (is-live c n v && is-live c n w))
         go (at a) (at b) =
             by-test (is-paired rows a && is-paired rows b)
             (λ t. rw t (goes said-left at-entry (λ s. refl) _ (form-late a b)))

@@ -86,10 +86,10 @@ pub fn dedupe_edge(
     properties: &[u64],
     numbers: &[i32; 8],
 ) -> usize {
-    let mut saved = [0i32; 512];
-    let mut held = [0u64; 256];
-    let s = scan::signed_list(file, at, &mut saved);
-    let p = scan::list(file, s.next, &mut held);
+    let mut spare_halfedges = [0i32; 512];
+    let mut spare_positions = [0u64; 256];
+    let s = scan::signed_list(file, at, &mut spare_halfedges);
+    let p = scan::list(file, s.next, &mut spare_positions);
     let s_end = s.length;
     let p_end = p.length;
     call_dedupe_edge(
@@ -99,8 +99,8 @@ pub fn dedupe_edge(
         normals,
         references,
         properties,
-        &mut saved[..s_end],
-        &mut held[..p_end],
+        &mut spare_halfedges[..s_end],
+        &mut spare_positions[..p_end],
         numbers,
     );
     p.next
@@ -145,12 +145,12 @@ pub fn dedupe_edges(
     references: &mut [i32],
     properties: &[u64],
 ) -> usize {
-    let mut saved = [0i32; 512];
-    let mut held = [0u64; 256];
+    let mut spare_halfedges = [0i32; 512];
+    let mut spare_positions = [0u64; 256];
     let mut work = [0u32; 512];
     let mut list = [0u32; 512];
-    let s = scan::signed_list(file, at, &mut saved);
-    let p = scan::list(file, s.next, &mut held);
+    let s = scan::signed_list(file, at, &mut spare_halfedges);
+    let p = scan::list(file, s.next, &mut spare_positions);
     let w = scan::words(file, p.next, &mut work);
     let l = scan::words(file, w.next, &mut list);
     let s_end = s.length;
@@ -164,8 +164,8 @@ pub fn dedupe_edges(
         normals,
         references,
         properties,
-        &mut saved[..s_end],
-        &mut held[..p_end],
+        &mut spare_halfedges[..s_end],
+        &mut spare_positions[..p_end],
         &mut work[..w_end],
         &mut list[..l_end],
     );
@@ -211,12 +211,12 @@ pub fn cleanup_topology(
     references: &mut [i32],
     properties: &[u64],
 ) -> usize {
-    let mut saved = [0i32; 512];
-    let mut held = [0u64; 256];
+    let mut spare_halfedges = [0i32; 512];
+    let mut spare_positions = [0u64; 256];
     let mut work = [0u32; 512];
     let mut list = [0u32; 512];
-    let s = scan::signed_list(file, at, &mut saved);
-    let p = scan::list(file, s.next, &mut held);
+    let s = scan::signed_list(file, at, &mut spare_halfedges);
+    let p = scan::list(file, s.next, &mut spare_positions);
     let w = scan::words(file, p.next, &mut work);
     let l = scan::words(file, w.next, &mut list);
     let s_end = s.length;
@@ -230,8 +230,8 @@ pub fn cleanup_topology(
         normals,
         references,
         properties,
-        &mut saved[..s_end],
-        &mut held[..p_end],
+        &mut spare_halfedges[..s_end],
+        &mut spare_positions[..p_end],
         &mut work[..w_end],
         &mut list[..l_end],
     );
@@ -283,11 +283,11 @@ pub fn collapse_edge(
     numbers: &[i32; 8],
     asked: &[u64; 8],
 ) -> usize {
-    let mut saved = [0i32; 512];
-    let mut held = [0u64; 256];
+    let mut spare_halfedges = [0i32; 512];
+    let mut spare_positions = [0u64; 256];
     let mut list = [0u32; 512];
-    let s = scan::signed_list(file, at, &mut saved);
-    let p = scan::list(file, s.next, &mut held);
+    let s = scan::signed_list(file, at, &mut spare_halfedges);
+    let p = scan::list(file, s.next, &mut spare_positions);
     let l = scan::words(file, p.next, &mut list);
     let s_end = s.length;
     let p_end = p.length;
@@ -299,8 +299,8 @@ pub fn collapse_edge(
         normals,
         references,
         properties,
-        &mut saved[..s_end],
-        &mut held[..p_end],
+        &mut spare_halfedges[..s_end],
+        &mut spare_positions[..p_end],
         &mut list[..l_end],
         numbers,
         asked,

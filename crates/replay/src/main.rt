@@ -92,10 +92,10 @@ fn read_loop(
     properties: &[u64],
     numbers: &[i32; 8],
 ) -> usize {
-    let mut saved = [0i32; 1024];
-    let mut held = [0u64; 512];
-    let s = scan::signed_list(file, at, &mut saved);
-    let p = scan::list(file, s.next, &mut held);
+    let mut spare_halfedges = [0i32; 1024];
+    let mut spare_positions = [0u64; 512];
+    let s = scan::signed_list(file, at, &mut spare_halfedges);
+    let p = scan::list(file, s.next, &mut spare_positions);
     let s_end = s.length;
     let p_end = p.length;
     entrycalls::form_loop(
@@ -105,8 +105,8 @@ fn read_loop(
         normals,
         references,
         properties,
-        &mut saved[..s_end],
-        &mut held[..p_end],
+        &mut spare_halfedges[..s_end],
+        &mut spare_positions[..p_end],
         numbers,
     );
     p.next

@@ -21,19 +21,19 @@ pub cleared-same : (k n : ℕ) (written before : List ℕ) {after : List ℕ} �
 cleared-same k n written before h e q = q ∙ ap (λ (t : List ℕ). replicate (n - 0) 0 ++ t) (drop-more k n written before h e)
 
 -- what is said of how the steps ended, with the net, the spares and the buffers
-pub left-as : {said : Said} {after back saved : List ℤ} {moved put held named zeros work none list : List ℕ} {marked : List ℤ} {w : Growing} (g : Grown) →
-    back ≡ saved → put ≡ held → zeros ≡ work → none ≡ list → so-far after moved named marked g ≡ w → said ≡ grownSaid g →
-    left said after moved named marked back put zeros none ≡ left-by saved held work list w
+pub left-as : {said : Said} {after back spare-halfedges : List ℤ} {moved put spare-positions named zeros work none list : List ℕ} {marked : List ℤ} {w : Growing} (g : Grown) →
+    back ≡ spare-halfedges → put ≡ spare-positions → zeros ≡ work → none ≡ list → so-far after moved named marked g ≡ w → said ≡ grownSaid g →
+    left said after moved named marked back put zeros none ≡ left-by spare-halfedges spare-positions work list w
 left-as {after} {back} {moved} {put} {named} {zeros} {none} {marked} g b p z n s q =
     ap (λ (x : Said). left x after moved named marked back put zeros none) q ∙ (λ i. left-by (b i) (p i) (z i) (n i) (s i))
 
 -- what has grown can be settled from a spare for what was in use
-pub fitting-settles : {l : Limits} {H N : ℕ} {rows : List ℤ} {positions normals : List ℕ} {references : List ℤ} (saved : List ℤ) (held : List ℕ) (g : Grown) →
-    H ≤ lent-halfedges saved → N ≤ lent-triples held → H ≤ g .halfedges → N ≤ g .run .vertices → Fitting l (so-far rows positions normals references g) →
-    Settles l H N rows positions normals references saved held g
-fitting-settles saved held g hs hp hg ng f = record {
-  rows-saved = hs;
-  positions-held = hp;
+pub fitting-settles : {l : Limits} {H N : ℕ} {rows : List ℤ} {positions normals : List ℕ} {references : List ℤ} (spare-halfedges : List ℤ) (spare-positions : List ℕ) (g : Grown) →
+    H ≤ lent-halfedges spare-halfedges → N ≤ lent-triples spare-positions → H ≤ g .halfedges → N ≤ g .run .vertices → Fitting l (so-far rows positions normals references g) →
+    Settles l H N rows positions normals references spare-halfedges spare-positions g
+fitting-settles spare-halfedges spare-positions g hs hp hg ng f = record {
+  halfedges-spared = hs;
+  positions-spared = hp;
   halfedges-grow = hg;
   halfedges-lent = omega (arith, f .rows-fit .within-capacity, f .rows-fit .lent);
   vertices-grow = ng;

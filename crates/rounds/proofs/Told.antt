@@ -20,12 +20,12 @@ use Rattle.rounds.specs.Rounds.{rounds}
 use Rattle.rounds.specs.DedupeEdges.{Left, left, edgesSaid, roundsAt, dedupeEdges}
 
 -- 6 or 7: of every array only the free rows that the steps had filled are changed: they read zero
-module _ (l : Limits) (H N : ℕ) (rows : List ℤ) (positions normals : List ℕ) (references saved : List ℤ) (held work list : List ℕ) where
+module _ (l : Limits) (H N : ℕ) (rows : List ℤ) (positions normals : List ℕ) (references spare-halfedges : List ℤ) (spare-positions work list : List ℕ) where
   abbrev steps : Growing
   steps = rounds l H (begun H N rows positions normals references) .growing
 
   abbrev after : Left
-  after = roundsAt l H N rows positions normals references saved held work list
+  after = roundsAt l H N rows positions normals references spare-halfedges spare-positions work list
 
   pub rounds-refused : halted steps ≡ true →
       (after .halfedges ≡ zero-rows H (steps .count) rows)
@@ -53,12 +53,12 @@ told D.NoRoom = refl
 told D.Stopped = refl
 
 -- two that are left alike are alike in everything
-pub same-left : {a b : Left} → a ≡ b → (a .said ≡ b .said) × ((a .halfedges ≡ b .halfedges) × ((a .positions ≡ b .positions) × ((a .normals ≡ b .normals) × ((a .references ≡ b .references) × ((a .saved ≡ b .saved) × ((a .held ≡ b .held) × ((a .work ≡ b .work) × (a .list ≡ b .list))))))))
+pub same-left : {a b : Left} → a ≡ b → (a .said ≡ b .said) × ((a .halfedges ≡ b .halfedges) × ((a .positions ≡ b .positions) × ((a .normals ≡ b .normals) × ((a .references ≡ b .references) × ((a .spare-halfedges ≡ b .spare-halfedges) × ((a .spare-positions ≡ b .spare-positions) × ((a .work ≡ b .work) × (a .list ≡ b .list))))))))
 same-left e =
-    (ap (λ (o : Left). o .said) e, (ap (λ (o : Left). o .halfedges) e, (ap (λ (o : Left). o .positions) e, (ap (λ (o : Left). o .normals) e, (ap (λ (o : Left). o .references) e, (ap (λ (o : Left). o .saved) e, (ap (λ (o : Left). o .held) e, (ap (λ (o : Left). o .work) e, ap (λ (o : Left). o .list) e))))))))
+    (ap (λ (o : Left). o .said) e, (ap (λ (o : Left). o .halfedges) e, (ap (λ (o : Left). o .positions) e, (ap (λ (o : Left). o .normals) e, (ap (λ (o : Left). o .references) e, (ap (λ (o : Left). o .spare-halfedges) e, (ap (λ (o : Left). o .spare-positions) e, (ap (λ (o : Left). o .work) e, ap (λ (o : Left). o .list) e))))))))
 
-pub edges-agree : (c : Counts) (n : Net) (saved : List ℤ) (held work list : List ℕ) (a b : DedupeEdges) (h h' : List ℤ) (p p' f f' : List ℕ) (r r' s s' : List ℤ) (q q' w w' l l' : List ℕ) →
-    left (edgesSaid a) h p f r s q w l ≡ dedupeEdges c n saved held work list → left (edgesSaid b) h' p' f' r' s' q' w' l' ≡ dedupeEdges c n saved held work list →
+pub edges-agree : (c : Counts) (n : Net) (spare-halfedges : List ℤ) (spare-positions work list : List ℕ) (a b : DedupeEdges) (h h' : List ℤ) (p p' f f' : List ℕ) (r r' s s' : List ℤ) (q q' w w' l l' : List ℕ) →
+    left (edgesSaid a) h p f r s q w l ≡ dedupeEdges c n spare-halfedges spare-positions work list → left (edgesSaid b) h' p' f' r' s' q' w' l' ≡ dedupeEdges c n spare-halfedges spare-positions work list →
     (a ≡ b) × ((h ≡ h') × ((p ≡ p') × ((f ≡ f') × ((r ≡ r') × ((s ≡ s') × ((q ≡ q') × ((w ≡ w') × (l ≡ l'))))))))
-edges-agree c n saved held work list a b h h' p p' f f' r r' s s' q q' w w' l l' x y =
+edges-agree c n spare-halfedges spare-positions work list a b h h' p p' f f' r r' s s' q q' w w' l l' x y =
     let e = same-left (x ∙ sym y) in (read-back edgesSaid answer-of told a b (e .0), e .1)

@@ -37,46 +37,46 @@ pub record Left : Type 0 where
   pub positions : List ℕ
   pub normals : List ℕ
   pub references : List ℤ
-  pub saved : List ℤ
-  pub held : List ℕ
+  pub spare-halfedges : List ℤ
+  pub spare-positions : List ℕ
   pub work : List ℕ
   pub list : List ℕ
 
 abbrev pub left : Said → List ℤ → List ℕ → List ℕ → List ℤ → List ℤ → List ℕ → List ℕ → List ℕ → Left
-left s h p n r sh sp w l = record { said = s; halfedges = h; positions = p; normals = n; references = r; saved = sh; held = sp; work = w; list = l }
+left s h p n r sh sp w l = record { said = s; halfedges = h; positions = p; normals = n; references = r; spare-halfedges = sh; spare-positions = sp; work = w; list = l }
 
 abbrev pub left-by : List ℤ → List ℕ → List ℕ → List ℕ → Growing → Left
-left-by saved held work list w =
-    left (grown-said (w .count) (w .middle .run .vertices) (w .middle .run .how)) (rows-of w) (w .middle .positions) (w .normals) (w .references) saved held work list
+left-by spare-halfedges spare-positions work list w =
+    left (grown-said (w .count) (w .middle .run .vertices) (w .middle .run .how)) (rows-of w) (w .middle .positions) (w .normals) (w .references) spare-halfedges spare-positions work list
 
 -- everything as at entry
 abbrev pub as-lent : Said → Net → List ℤ → List ℕ → List ℕ → List ℕ → Left
-as-lent s n saved held work list = left s (n .halfedges) (n .positions) (n .normals) (n .references) saved held work list
+as-lent s n spare-halfedges spare-positions work list = left s (n .halfedges) (n .positions) (n .normals) (n .references) spare-halfedges spare-positions work list
 
 -- past the checks: at most as many rounds as half-edges; the spare holds the rows in use as at entry, work buffer and list read zero over
 -- the half-edge capacity
 unfoldable pub roundsAt : Limits → ℕ → ℕ → List ℤ → List ℕ → List ℕ → List ℤ → List ℤ → List ℕ → List ℕ → List ℕ → Left
-roundsAt l H N rows positions normals references saved held work list =
-    left-by (over-rows H rows saved) (over-triples N positions held) (cleared (l .halfedges) work) (cleared (l .halfedges) list)
+roundsAt l H N rows positions normals references spare-halfedges spare-positions work list =
+    left-by (over-rows H rows spare-halfedges) (over-triples N positions spare-positions) (cleared (l .halfedges) work) (cleared (l .halfedges) list)
     (settled l H N rows positions normals references (rounds l H (begun H N rows positions normals references) .growing))
 
 -- the spare holds the rows in use; the work buffer has an entry for each of `long`, the list one for each half-edge that there can be
 abbrev pub lent-enough : Counts → ℕ → ℕ → List ℤ → List ℕ → List ℕ → List ℕ → Bool
-lent-enough c capacity long saved held work list = spare-holds c saved held && is-long (length work) long && is-long (length list) capacity
+lent-enough c capacity long spare-halfedges spare-positions work list = spare-holds c spare-halfedges spare-positions && is-long (length work) long && is-long (length list) capacity
 
 -- the same as facts, of a work buffer that is as long as the list at least
-pub record Enough (l : Limits) (H N long : ℕ) (saved : List ℤ) (held work list : List ℕ) : Type 0 where
-  pub rows-saved : H ≤ lent-halfedges saved
-  pub positions-held : N ≤ lent-triples held
+pub record Enough (l : Limits) (H N long : ℕ) (spare-halfedges : List ℤ) (spare-positions work list : List ℕ) : Type 0 where
+  pub halfedges-spared : H ≤ lent-halfedges spare-halfedges
+  pub positions-spared : N ≤ lent-triples spare-positions
   pub capacity-long : l .halfedges ≤ long
   pub work-long : long ≤ length work
   pub list-long : l .halfedges ≤ length list
 
 unfoldable pub dedupeEdges : Counts → Net → List ℤ → List ℕ → List ℕ → List ℕ → Left
-dedupeEdges c n saved held work list =
+dedupeEdges c n spare-halfedges spare-positions work list =
     cond (is-shaped c n)
-    (cond (lent-enough c (limits-of c n .halfedges) (limits-of c n .halfedges) saved held work list)
-    (past (sound-or (least-out (c .halfedges) (c .vertices) (n .halfedges))) (λ s. as-lent s n saved held work list)
-    (roundsAt (limits-of c n) (c .halfedges) (c .vertices) (n .halfedges) (n .positions) (n .normals) (n .references) saved held work list))
-    (as-lent short-buffer n saved held work list))
-    (as-lent shape n saved held work list)
+    (cond (lent-enough c (limits-of c n .halfedges) (limits-of c n .halfedges) spare-halfedges spare-positions work list)
+    (past (sound-or (least-out (c .halfedges) (c .vertices) (n .halfedges))) (λ s. as-lent s n spare-halfedges spare-positions work list)
+    (roundsAt (limits-of c n) (c .halfedges) (c .vertices) (n .halfedges) (n .positions) (n .normals) (n .references) spare-halfedges spare-positions work list))
+    (as-lent short-buffer n spare-halfedges spare-positions work list))
+    (as-lent shape n spare-halfedges spare-positions work list)

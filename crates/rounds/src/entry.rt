@@ -46,8 +46,8 @@ pub fn rounds_settled(
     positions: &mut [u64],
     normals: &mut [u64],
     references: &mut [i32],
-    saved: &[i32],
-    held: &[u64],
+    spare_halfedges: &[i32],
+    spare_positions: &[u64],
     work: &mut [u32],
     list: &mut [u32],
     limits: Limits,
@@ -56,8 +56,8 @@ pub fn rounds_settled(
     long: usize,
     grown: Grown,
 ) -> Grown
-    requires { ⌜ Fitting limits (so-far (now rows) (now positions) (now normals) (now references) grown) × (((halfedges ≤ grown .halfedges) × (vertices ≤ grown .run .vertices)) × Enough limits halfedges vertices long (now saved) (now held) (now work) (now list)) ⌝ }
-    ensures { λ r. ⌜ (so-far (now (rows .exit)) (now (positions .exit)) (now (normals .exit)) (now (references .exit)) r ≡ settled-by limits halfedges vertices (now (saved .entry)) (now (held .entry)) (rounds limits (grown .halfedges) (so-far (now (rows .entry)) (now (positions .entry)) (now (normals .entry)) (now (references .entry)) grown) .growing)) × ((now (work .exit) ≡ cleared long (now (work .entry))) × (now (list .exit) ≡ cleared (limits .halfedges) (now (list .entry)))) ⌝ }
+    requires { ⌜ Fitting limits (so-far (now rows) (now positions) (now normals) (now references) grown) × (((halfedges ≤ grown .halfedges) × (vertices ≤ grown .run .vertices)) × Enough limits halfedges vertices long (now «spare_halfedges») (now «spare_positions») (now work) (now list)) ⌝ }
+    ensures { λ r. ⌜ (so-far (now (rows .exit)) (now (positions .exit)) (now (normals .exit)) (now (references .exit)) r ≡ settled-by limits halfedges vertices (now («spare_halfedges» .entry)) (now («spare_positions» .entry)) (rounds limits (grown .halfedges) (so-far (now (rows .entry)) (now (positions .entry)) (now (normals .entry)) (now (references .entry)) grown) .growing)) × ((now (work .exit) ≡ cleared long (now (work .entry))) × (now (list .exit) ≡ cleared (limits .halfedges) (now (list .entry)))) ⌝ }
 {
     let ended = crate::rounds(
         rows,
@@ -75,8 +75,8 @@ pub fn rounds_settled(
         positions,
         normals,
         references,
-        saved,
-        held,
+        spare_halfedges,
+        spare_positions,
         halfedges,
         vertices,
         limits,
@@ -93,26 +93,26 @@ fn rounds_at(
     positions: &mut [u64],
     normals: &mut [u64],
     references: &mut [i32],
-    saved: &mut [i32],
-    held: &mut [u64],
+    spare_halfedges: &mut [i32],
+    spare_positions: &mut [u64],
     work: &mut [u32],
     list: &mut [u32],
     limits: Limits,
     halfedges: usize,
     vertices: usize,
 ) -> DedupeEdges
-    requires { ⌜ Fitting limits (begun halfedges vertices (now rows) (now positions) (now normals) (now references)) × Enough limits halfedges vertices (limits .halfedges) (now saved) (now held) (now work) (now list) ⌝ }
-    ensures { λ r. ⌜ left (edgesSaid r) (now (rows .exit)) (now (positions .exit)) (now (normals .exit)) (now (references .exit)) (now (saved .exit)) (now (held .exit)) (now (work .exit)) (now (list .exit)) ≡ roundsAt limits halfedges vertices (now (rows .entry)) (now (positions .entry)) (now (normals .entry)) (now (references .entry)) (now (saved .entry)) (now (held .entry)) (now (work .entry)) (now (list .entry)) ⌝ }
+    requires { ⌜ Fitting limits (begun halfedges vertices (now rows) (now positions) (now normals) (now references)) × Enough limits halfedges vertices (limits .halfedges) (now «spare_halfedges») (now «spare_positions») (now work) (now list) ⌝ }
+    ensures { λ r. ⌜ left (edgesSaid r) (now (rows .exit)) (now (positions .exit)) (now (normals .exit)) (now (references .exit)) (now («spare_halfedges» .exit)) (now («spare_positions» .exit)) (now (work .exit)) (now (list .exit)) ≡ roundsAt limits halfedges vertices (now (rows .entry)) (now (positions .entry)) (now (normals .entry)) (now (references .entry)) (now («spare_halfedges» .entry)) (now («spare_positions» .entry)) (now (work .entry)) (now (list .entry)) ⌝ }
 {
-    rows::halfedges::copy(rows, saved, halfedges);
-    rows::triples::copy(positions, held, vertices);
+    rows::halfedges::copy(rows, spare_halfedges, halfedges);
+    rows::triples::copy(positions, spare_positions, vertices);
     let grown = rounds_settled(
         rows,
         positions,
         normals,
         references,
-        saved,
-        held,
+        spare_halfedges,
+        spare_positions,
         work,
         list,
         limits,
@@ -127,16 +127,16 @@ fn rounds_at(
 // Whether the spare holds the rows in use, and work buffer and list are not too short.
 pub fn enough(
     counts: Counts,
-    saved: &[i32],
-    held: &[u64],
+    spare_halfedges: &[i32],
+    spare_positions: &[u64],
     work: &[u32],
     list: &[u32],
     capacity: usize,
     long: usize,
 ) -> bool
-    ensures { λ r. ⌜ r ≡ lent-enough counts capacity long (now (saved .entry)) (now (held .entry)) (now (work .entry)) (now (list .entry)) ⌝ }
+    ensures { λ r. ⌜ r ≡ lent-enough counts capacity long (now («spare_halfedges» .entry)) (now («spare_positions» .entry)) (now (work .entry)) (now (list .entry)) ⌝ }
 {
-    net::spare_fits(counts, saved, held)
+    net::spare_fits(counts, spare_halfedges, spare_positions)
         & net::long_enough(work.len(), long)
         & net::long_enough(list.len(), capacity)
 }
@@ -149,12 +149,12 @@ pub fn dedupe_edges(
     normals: &mut [u64],
     references: &mut [i32],
     properties: &[u64],
-    saved: &mut [i32],
-    held: &mut [u64],
+    spare_halfedges: &mut [i32],
+    spare_positions: &mut [u64],
     work: &mut [u32],
     list: &mut [u32],
 ) -> DedupeEdges
-    ensures { λ r. ⌜ left (edgesSaid r) (now (halfedges .exit)) (now (positions .exit)) (now (normals .exit)) (now (references .exit)) (now (saved .exit)) (now (held .exit)) (now (work .exit)) (now (list .exit)) ≡ dedupeEdges counts (net (now (halfedges .entry)) (now (positions .entry)) (now (normals .entry)) (now (references .entry)) (now (properties .entry))) (now (saved .entry)) (now (held .entry)) (now (work .entry)) (now (list .entry)) ⌝ }
+    ensures { λ r. ⌜ left (edgesSaid r) (now (halfedges .exit)) (now (positions .exit)) (now (normals .exit)) (now (references .exit)) (now («spare_halfedges» .exit)) (now («spare_positions» .exit)) (now (work .exit)) (now (list .exit)) ≡ dedupeEdges counts (net (now (halfedges .entry)) (now (positions .entry)) (now (normals .entry)) (now (references .entry)) (now (properties .entry))) (now («spare_halfedges» .entry)) (now («spare_positions» .entry)) (now (work .entry)) (now (list .entry)) ⌝ }
 {
     if !net::shaped(
         counts,
@@ -168,7 +168,15 @@ pub fn dedupe_edges(
     }
     let limits = settling::limits_of(counts, halfedges, positions, normals, references);
     let capacity = limits.halfedges;
-    if !enough(counts, saved, held, work, list, capacity, capacity) {
+    if !enough(
+        counts,
+        spare_halfedges,
+        spare_positions,
+        work,
+        list,
+        capacity,
+        capacity,
+    ) {
         return DedupeEdges::ShortBuffer;
     }
     match soundness::first_out(halfedges, counts.halfedges, counts.vertices) {
@@ -178,8 +186,8 @@ pub fn dedupe_edges(
             positions,
             normals,
             references,
-            saved,
-            held,
+            spare_halfedges,
+            spare_positions,
             work,
             list,
             limits,

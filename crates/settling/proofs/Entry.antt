@@ -39,12 +39,12 @@ begun-fits c n s =
     }
 
 -- what has grown from it, with a spare for what was in use
-pub grew-settles : {l : Limits} {H N : ℕ} {rows after : List ℤ} {positions left normals more : List ℕ} {references marked : List ℤ} (saved : List ℤ) (held : List ℕ) (g : Grown) →
-    H ≤ lent-halfedges saved → N ≤ lent-triples held → Grew l (begun H N rows positions normals references) (growing (middle after left (g .run)) (g .halfedges) more marked) →
-    Settles l H N after left more marked saved held g
-grew-settles saved held g hs hp k = record {
-  rows-saved = hs;
-  positions-held = hp;
+pub grew-settles : {l : Limits} {H N : ℕ} {rows after : List ℤ} {positions left normals more : List ℕ} {references marked : List ℤ} (spare-halfedges : List ℤ) (spare-positions : List ℕ) (g : Grown) →
+    H ≤ lent-halfedges spare-halfedges → N ≤ lent-triples spare-positions → Grew l (begun H N rows positions normals references) (growing (middle after left (g .run)) (g .halfedges) more marked) →
+    Settles l H N after left more marked spare-halfedges spare-positions g
+grew-settles spare-halfedges spare-positions g hs hp k = record {
+  halfedges-spared = hs;
+  positions-spared = hp;
   halfedges-grow = k .grows .count-grows;
   halfedges-lent = omega (arith, k .fitting .rows-fit .within-capacity, k .fitting .rows-fit .lent);
   vertices-grow = k .grows .vertices-grow;
@@ -54,9 +54,9 @@ grew-settles saved held g hs hp k = record {
 }
 
 -- settled from a spare that holds the rows in use as at entry, what has grown ends as it should
-pub ends-settled : (l : Limits) (H N : ℕ) (rows saved : List ℤ) (positions held normals : List ℕ) (references : List ℤ) (w x : Growing) {back : List ℤ} {put : List ℕ} →
+pub ends-settled : (l : Limits) (H N : ℕ) (rows spare-halfedges : List ℤ) (positions spare-positions normals : List ℕ) (references : List ℤ) (w x : Growing) {back : List ℤ} {put : List ℕ} →
     Fitting l (begun H N rows positions normals references) → Grew l (begun H N rows positions normals references) w →
-    back ≡ over-rows H rows saved → put ≡ over-triples N positions held → x ≡ settled-by l H N back put w → x ≡ settled l H N rows positions normals references w
-ends-settled l H N rows saved positions held normals references w x f g b p e =
+    back ≡ over-rows H rows spare-halfedges → put ≡ over-triples N positions spare-positions → x ≡ settled-by l H N back put w → x ≡ settled l H N rows positions normals references w
+ends-settled l H N rows spare-halfedges positions spare-positions normals references w x f g b p e =
     e ∙ (λ i. settled-by l H N (b i) (p i) w)
-    ∙ settle-grown-same l H N rows saved positions held normals references w (omega (arith, f .rows-fit .within-capacity, f .rows-fit .lent)) (omega (arith, f .vertices-fit .within-vertices, f .vertices-fit .vertices-lent)) (g .grows)
+    ∙ settle-grown-same l H N rows spare-halfedges positions spare-positions normals references w (omega (arith, f .rows-fit .within-capacity, f .rows-fit .lent)) (omega (arith, f .vertices-fit .within-vertices, f .vertices-fit .vertices-lent)) (g .grows)

@@ -73,7 +73,7 @@ module _ {l : Limits} where
     references-grow = appended-none _ _ _;
   }
 
--- half-edge rows n up to m were filled, and n rows that were saved are laid back: rows n up to m read zero, the others are as they were
+-- half-edge rows n up to m were filled, and n rows that were spare-halfedges are laid back: rows n up to m read zero, the others are as they were
 rows-back-zeroed : (n m : ℕ) (d e s : List ℤ) → n ≤ lent-halfedges d → n ≤ lent-halfedges e → rows-from m e ≡ rows-from m d → over-rows n (over-rows n d s) (zero-rows n m e) ≡ zero-rows n m d
 unfolding over-rows zero-rows rows-from
 rows-back-zeroed n m d e s hd he q = over-filled (pos 0) (width * n) (width * m) d e s (omega arith) (omega arith) q
@@ -84,11 +84,11 @@ cond-zeroed true zero n m a b f = appended-zeroed zero n m a b f
 cond-zeroed false zero n m a b f = f .none refl
 
 -- steps that leave the free rows alone: an end from the spare puts everything back
-pub settle-grown-same : (l : Limits) (H N : ℕ) (rows saved : List ℤ) (positions held normals : List ℕ) (references : List ℤ) (w : Growing) → H ≤ lent-halfedges rows → N ≤ lent-triples positions →
+pub settle-grown-same : (l : Limits) (H N : ℕ) (rows spare-halfedges : List ℤ) (positions spare-positions normals : List ℕ) (references : List ℤ) (w : Growing) → H ≤ lent-halfedges rows → N ≤ lent-triples positions →
     Grows l (begun H N rows positions normals references) w →
-    settled-by l H N (over-rows H rows saved) (over-triples N positions held) w ≡ settled l H N rows positions normals references w
+    settled-by l H N (over-rows H rows spare-halfedges) (over-triples N positions spare-positions) w ≡ settled l H N rows positions normals references w
 unfolding zero-triples zero-references
-settle-grown-same l H N rows saved positions held normals references w lr lp f =
+settle-grown-same l H N rows spare-halfedges positions spare-positions normals references w lr lp f =
     by-test (halted w)
-    (λ t. rw (t, rows-back-zeroed H (w .count) rows (rows-of w) saved lr (omega (arith, f .rows-lent)) (f .rows-free), laid-back-zeroed N (w .middle .run .vertices) positions (w .middle .positions) held lp (omega (arith, f .positions-lent)) (f .positions-free), cond-zeroed (l .normals) 0 (H / 3) (w .count / 3) normals (w .normals) (f .normals-grow), cond-zeroed (l .references) (pos 0) (H / 3) (w .count / 3) references (w .references) (f .references-grow)))
+    (λ t. rw (t, rows-back-zeroed H (w .count) rows (rows-of w) spare-halfedges lr (omega (arith, f .rows-lent)) (f .rows-free), laid-back-zeroed N (w .middle .run .vertices) positions (w .middle .positions) spare-positions lp (omega (arith, f .positions-lent)) (f .positions-free), cond-zeroed (l .normals) 0 (H / 3) (w .count / 3) normals (w .normals) (f .normals-grow), cond-zeroed (l .references) (pos 0) (H / 3) (w .count / 3) references (w .references) (f .references-grow)))
     (λ t. rw t)

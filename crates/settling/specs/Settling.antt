@@ -49,17 +49,17 @@ grownSaid g = grown-said (g .halfedges) (g .run .vertices) (g .run .how)
 
 -- the end from the spare, which holds the H half-edge rows and N positions that were in use
 abbrev pub settled-by : Limits → ℕ → ℕ → List ℤ → List ℕ → Growing → Growing
-settled-by l H N saved held w =
+settled-by l H N spare-halfedges spare-positions w =
     cond (halted w)
-    (growing (S.settled-by H N saved held (with-rows (zero-rows H (w .count) (rows-of w)) (w .middle))) (w .count)
+    (growing (S.settled-by H N spare-halfedges spare-positions (with-rows (zero-rows H (w .count) (rows-of w)) (w .middle))) (w .count)
     (cond (l .normals) (zero-triples (H / 3) (w .count / 3) (w .normals)) (w .normals))
     (cond (l .references) (zero-references (H / 3) (w .count / 3) (w .references)) (w .references)))
     w
 
 -- what it needs: the rows in use at entry are within the spare, and those in use now, of which there are no fewer, are lent
-pub record Settles (l : Limits) (H N : ℕ) (rows : List ℤ) (positions normals : List ℕ) (references saved : List ℤ) (held : List ℕ) (g : Grown) : Type 0 where
-  pub rows-saved : H ≤ lent-halfedges saved
-  pub positions-held : N ≤ lent-triples held
+pub record Settles (l : Limits) (H N : ℕ) (rows : List ℤ) (positions normals : List ℕ) (references spare-halfedges : List ℤ) (spare-positions : List ℕ) (g : Grown) : Type 0 where
+  pub halfedges-spared : H ≤ lent-halfedges spare-halfedges
+  pub positions-spared : N ≤ lent-triples spare-positions
   pub halfedges-grow : H ≤ g .halfedges
   pub halfedges-lent : g .halfedges ≤ lent-halfedges rows
   pub vertices-grow : N ≤ g .run .vertices

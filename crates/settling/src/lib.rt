@@ -68,15 +68,15 @@ pub fn settle_grown(
     positions: &mut [u64],
     normals: &mut [u64],
     references: &mut [i32],
-    saved: &[i32],
-    held: &[u64],
+    spare_halfedges: &[i32],
+    spare_positions: &[u64],
     halfedges: usize,
     vertices: usize,
     limits: Limits,
     grown: Grown,
 )
-    requires { ⌜ Settles limits halfedges vertices (now rows) (now positions) (now normals) (now references) (now saved) (now held) grown ⌝ }
-    ensures { λ _. ⌜ growing (middle (now (rows .exit)) (now (positions .exit)) (grown .run)) (grown .halfedges) (now (normals .exit)) (now (references .exit)) ≡ settled-by limits halfedges vertices (now (saved .entry)) (now (held .entry)) (growing (middle (now (rows .entry)) (now (positions .entry)) (grown .run)) (grown .halfedges) (now (normals .entry)) (now (references .entry))) ⌝ }
+    requires { ⌜ Settles limits halfedges vertices (now rows) (now positions) (now normals) (now references) (now «spare_halfedges») (now «spare_positions») grown ⌝ }
+    ensures { λ _. ⌜ growing (middle (now (rows .exit)) (now (positions .exit)) (grown .run)) (grown .halfedges) (now (normals .exit)) (now (references .exit)) ≡ settled-by limits halfedges vertices (now («spare_halfedges» .entry)) (now («spare_positions» .entry)) (growing (middle (now (rows .entry)) (now (positions .entry)) (grown .run)) (grown .halfedges) (now (normals .entry)) (now (references .entry))) ⌝ }
 {
     let run = grown.run;
     if !steps::refused(run) {
@@ -84,7 +84,15 @@ pub fn settle_grown(
     }
     let filled = grown.halfedges;
     rows::halfedges::zero(rows, halfedges, filled);
-    steps::settle(rows, positions, saved, held, halfedges, vertices, run);
+    steps::settle(
+        rows,
+        positions,
+        spare_halfedges,
+        spare_positions,
+        halfedges,
+        vertices,
+        run,
+    );
     zero_normals(normals, limits.normals, halfedges / 3, filled / 3);
     zero_references(references, limits.references, halfedges / 3, filled / 3);
 }

@@ -30,16 +30,16 @@ abbrev pub owners-left : owners.Outcome → OwnersAnswer × List ℕ × List ℕ
 owners-left o = (owners-told (o .said), o .work, o .list)
 
 abbrev pub loop-left : Left → LoopAnswer × List ℤ × List ℕ × List ℤ × List ℕ
-loop-left o = (loop-told (o .said), o .halfedges, o .positions, o .saved, o .held)
+loop-left o = (loop-told (o .said), o .halfedges, o .positions, o .spare-halfedges, o .spare-positions)
 
 abbrev pub edge-left : edge.Left → DedupeEdgeAnswer × List ℤ × List ℕ × List ℕ × List ℤ × List ℤ × List ℕ
-edge-left o = (edge-told (o .said), o .halfedges, o .positions, o .normals, o .references, o .saved, o .held)
+edge-left o = (edge-told (o .said), o .halfedges, o .positions, o .normals, o .references, o .spare-halfedges, o .spare-positions)
 
 abbrev pub edges-left : edges.Left → DedupeEdgesAnswer × List ℤ × List ℕ × List ℕ × List ℤ × List ℤ × List ℕ × List ℕ × List ℕ
-edges-left o = (edges-told (o .said), o .halfedges, o .positions, o .normals, o .references, o .saved, o .held, o .work, o .list)
+edges-left o = (edges-told (o .said), o .halfedges, o .positions, o .normals, o .references, o .spare-halfedges, o .spare-positions, o .work, o .list)
 
 abbrev pub cleanup-left : edges.Left → CleanupTopologyAnswer × List ℤ × List ℕ × List ℕ × List ℤ × List ℤ × List ℕ × List ℕ × List ℕ
-cleanup-left o = (cleanup-told (o .said), o .halfedges, o .positions, o .normals, o .references, o .saved, o .held, o .work, o .list)
+cleanup-left o = (cleanup-told (o .said), o .halfedges, o .positions, o .normals, o .references, o .spare-halfedges, o .spare-positions, o .work, o .list)
 
 abbrev pub collapse-left : collapse.Left → CollapseEdgeAnswer × List ℤ × List ℕ × List ℤ × List ℕ × List ℕ
-collapse-left o = (collapse-told (o .said), o .halfedges, o .positions, o .saved, o .held, o .list)
+collapse-left o = (collapse-told (o .said), o .halfedges, o .positions, o .spare-halfedges, o .spare-positions, o .list)

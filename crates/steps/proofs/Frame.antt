@@ -65,13 +65,13 @@ module _ {H : ℕ} where
   frame-positions m l e k = record { rows-free = refl; rows-lent = refl; grows = le-refl _; positions-free = e; positions-lent = k }
 
 -- steps that leave the free rows alone: an end from the spare puts everything back
-module _ (H N : ℕ) (rows saved : List ℤ) (positions held : List ℕ) (m : Middle) (lr : H ≤ lent-halfedges rows) (lp : N ≤ lent-triples positions)
+module _ (H N : ℕ) (rows spare-halfedges : List ℤ) (positions spare-positions : List ℕ) (m : Middle) (lr : H ≤ lent-halfedges rows) (lp : N ≤ lent-triples positions)
     (f : Frame H (begin rows positions N) m) where
-  rows-back : over-rows H (over-rows H rows saved) (m .halfedges) ≡ rows
-  rows-back = laid-back H rows (m .halfedges) saved lr (f .rows-free)
+  rows-back : over-rows H (over-rows H rows spare-halfedges) (m .halfedges) ≡ rows
+  rows-back = laid-back H rows (m .halfedges) spare-halfedges lr (f .rows-free)
 
-  positions-back : over-triples N (over-triples N positions held) (zero-triples N (m .run .vertices) (m .positions)) ≡ zero-triples N (m .run .vertices) positions
-  positions-back = laid-back-zeroed N (m .run .vertices) positions (m .positions) held lp (omega (arith, f .positions-lent)) (f .positions-free)
+  positions-back : over-triples N (over-triples N positions spare-positions) (zero-triples N (m .run .vertices) (m .positions)) ≡ zero-triples N (m .run .vertices) positions
+  positions-back = laid-back-zeroed N (m .run .vertices) positions (m .positions) spare-positions lp (omega (arith, f .positions-lent)) (f .positions-free)
 
-  pub settle-same : settled-by H N (over-rows H rows saved) (over-triples N positions held) m ≡ settled N rows positions m
+  pub settle-same : settled-by H N (over-rows H rows spare-halfedges) (over-triples N positions spare-positions) m ≡ settled N rows positions m
   settle-same = rw (rows-back, positions-back)

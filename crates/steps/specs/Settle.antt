@@ -14,7 +14,7 @@ settled N halfedges positions m =
 
 -- the same as the code does it: from the spare, which holds the H half-edge rows and N positions that were in use
 abbrev pub settled-by : ℕ → ℕ → List ℤ → List ℕ → Middle → Middle
-settled-by H N saved held m =
+settled-by H N spare-halfedges spare-positions m =
     cond (refused m)
-    (middle (over-rows H saved (m .halfedges)) (over-triples N held (zero-triples N (m .run .vertices) (m .positions))) (m .run))
+    (middle (over-rows H spare-halfedges (m .halfedges)) (over-triples N spare-positions (zero-triples N (m .run .vertices) (m .positions))) (m .run))
     m

@@ -67,20 +67,20 @@ pub fn refused(run: Run) -> bool
 pub fn settle(
     rows: &mut [i32],
     positions: &mut [u64],
-    saved: &[i32],
-    held: &[u64],
+    spare_halfedges: &[i32],
+    spare_positions: &[u64],
     halfedges: usize,
     vertices: usize,
     run: Run,
 )
-    requires { ⌜ (halfedges ≤ lent-halfedges (now rows)) × ((halfedges ≤ lent-halfedges (now saved)) × ((vertices ≤ lent-triples (now held)) × ((vertices ≤ run .vertices) × (run .vertices ≤ lent-triples (now positions))))) ⌝ }
-    ensures { λ _. ⌜ middle (now (rows .exit)) (now (positions .exit)) run ≡ settled-by halfedges vertices (now (saved .entry)) (now (held .entry)) (middle (now (rows .entry)) (now (positions .entry)) run) ⌝ }
+    requires { ⌜ (halfedges ≤ lent-halfedges (now rows)) × ((halfedges ≤ lent-halfedges (now «spare_halfedges»)) × ((vertices ≤ lent-triples (now «spare_positions»)) × ((vertices ≤ run .vertices) × (run .vertices ≤ lent-triples (now positions))))) ⌝ }
+    ensures { λ _. ⌜ middle (now (rows .exit)) (now (positions .exit)) run ≡ settled-by halfedges vertices (now («spare_halfedges» .entry)) (now («spare_positions» .entry)) (middle (now (rows .entry)) (now (positions .entry)) run) ⌝ }
 {
     if !refused(run) {
         return;
     }
     let filled = run.vertices;
-    rows::halfedges::copy(saved, rows, halfedges);
+    rows::halfedges::copy(spare_halfedges, rows, halfedges);
     rows::triples::zero(positions, vertices, filled);
-    rows::triples::copy(held, positions, vertices);
+    rows::triples::copy(spare_positions, positions, vertices);
 }

@@ -64,8 +64,8 @@ rounds-settled-requires c κs =
       (
         (le-refl _, f .1),
         record {
-          rows-saved = omega (arith, p .1 .1 .rows-saved, c .before .before .before .before .before .before .before .before .before .before .before .before .before .before .before .before .before .before .before .before .before .before .before .before .before .before .before .before .copy .kept .1 .0);
-          positions-held = omega (arith, p .1 .1 .positions-held, c .before .before .before .before .before .before .before .before .before .before .before .before .before .before .before .before .before .before .before .before .before .before .before .before .copy2 .kept .1 .0);
+          halfedges-spared = omega (arith, p .1 .1 .halfedges-spared, c .before .before .before .before .before .before .before .before .before .before .before .before .before .before .before .before .before .before .before .before .before .before .before .before .before .before .before .before .copy .kept .1 .0);
+          positions-spared = omega (arith, p .1 .1 .positions-spared, c .before .before .before .before .before .before .before .before .before .before .before .before .before .before .before .before .before .before .before .before .before .before .before .before .copy2 .kept .1 .0);
           capacity-long = omega arith;
           work-long = omega (arith, p .1 .1 .work-long, c .before .before .before .before .before .before .before .before .before .before .before .before .before .before .before .before .before .split-sound .kept .1 .1 .0);
           list-long = omega (arith, p .1 .1 .list-long, c .before .before .before .before .before .before .before .before .before .before .before .before .before .before .before .before .before .split-sound .kept .1 .1 .1 .0);
@@ -114,7 +114,7 @@ returns c =
     let o = split-sound (s .halfedges) (s .vertices) (s .rows .now) (s .positions .now) (s .work .now) (s .list .now) in
     let a = after-split (s .limits) (s .halfedges) (s .vertices) (s .normals .now) (s .references .now) o in
     let g = grew-trans (s .limits) (x .grew) (rounds-grew (s .limits) (s .halfedges) a (x .grew .fitting)) in
-    let q = ends-clean (s .limits) (s .halfedges) (s .vertices) (s .rows .now) (s .saved .now) (s .positions .now) (s .held .now) (s .normals .now) (s .references .now) a _ _ (p .1 .0) g (c .before .before .before .before .before .before .before .before .before .before .before .before .before .before .before .before .before .before .before .before .before .before .before .before .before .before .before .before .before .before .before .before .before .before .before .before .before .before .before .before .copy .ensures) (c .before .before .before .before .before .before .before .before .before .before .before .before .before .before .before .before .before .before .before .before .before .before .before .before .before .before .before .before .before .before .before .before .before .before .before .before .copy2 .ensures) w (r .0) in
+    let q = ends-clean (s .limits) (s .halfedges) (s .vertices) (s .rows .now) (s .spare-halfedges .now) (s .positions .now) (s .spare-positions .now) (s .normals .now) (s .references .now) a _ _ (p .1 .0) g (c .before .before .before .before .before .before .before .before .before .before .before .before .before .before .before .before .before .before .before .before .before .before .before .before .before .before .before .before .before .before .before .before .before .before .before .before .before .before .before .before .copy .ensures) (c .before .before .before .before .before .before .before .before .before .before .before .before .before .before .before .before .before .before .before .before .before .before .before .before .before .before .before .before .before .before .before .before .before .before .before .before .copy2 .ensures) w (r .0) in
     let z = cleared-same (s .halfedges + s .vertices) (s .limits .halfedges + s .vertices) _ (s .work .now) (omega (arith, p .1 .0 .rows-fit .within-capacity)) (ap (drop (s .halfedges + s .vertices)) (ap (λ (y : Outcome). y .work) e ∙ x .work-is) ∙ filled-beyond 0 (s .halfedges + s .vertices) (s .work .now)) (r .1 .0) in
     let n = cleared-same (s .halfedges) (s .limits .halfedges) _ (s .list .now) (p .1 .0 .rows-fit .within-capacity) (ap (drop (s .halfedges)) (ap (λ (y : Outcome). y .visit) e) ∙ x .list-free) (r .1 .1) in
     left-as _ (c .before .before .before .before .before .before .before .before .before .before .before .before .before .before .before .before .before .before .before .before .before .before .before .before .before .before .before .before .before .before .before .before .before .before .before .before .before .before .before .before .copy .ensures) (c .before .before .before .before .before .before .before .before .before .before .before .before .before .before .before .before .before .before .before .before .before .before .before .before .before .before .before .before .before .before .before .before .before .before .before .before .copy2 .ensures) z n q (c .answer .ensures)

@@ -46,7 +46,7 @@ same-length-5 c = search needs
 
 returns : tie.Need-returns
 unfolding collapseSettled
-returns c = let s = c .before .before .before .before .before .before .before .before .before .before .before .before .before .before .before .before .before .before .before .before .before .before .before .before .before .before .before .before .before .before .before .before .before .before .args in let p = c .before .before .before .before .before .before .before .before .before .before .before .before .before .before .before .before .before .before .before .before .before .before .before .before .before .before .before .before .before .before .before .before .before .before .pre in let f = settle-steps (s .halfedges) (s .vertices) (s .capacity) (s .props) (s .references .now) (s .tolerance) (s .e .0) (s .rows .now) (s .positions .now) (c .before .before .before .before .before .before .before .before .before .before .before .before .before .before .before .before .before .before .try-edge .ensures .0) (p .0 .0) (p .0 .1 .0) (p .0 .1 .1 .0) (p .1 .0 .0) (p .1 .0 .1 .0) in let l : s .vertices ≤ lent-triples (s .positions .now) = omega (arith, p .1 .0 .0, p .1 .0 .1 .0) in let z = filled-again 0 (s .room) (s .list .now) _ _ (drop-more (s .halfedges) (s .room) _ _ (p .1 .1 .1 .1 .0) (c .before .before .before .before .before .before .before .before .before .before .before .before .before .before .before .before .before .before .try-edge .ensures .1) ∙ sym (filled-beyond 0 (s .room) (s .list .now))) (c .before .before .before .zero-u32 .ensures) in rw (c .answer .ensures, ← (c .before .before .before .before .before .before .before .before .before .before .before .before .before .before .before .before .before .before .try-edge .ensures .0), ← settle-same (s .halfedges) (s .vertices) (s .rows .now) (s .saved .now) (s .positions .now) (s .held .now) _ (p .0 .1 .1 .0) l (f .frame), ← c .before .before .before .before .before .before .before .before .before .before .before .before .before .before .before .before .before .before .before .before .before .before .before .before .before .before .before .before .copy .ensures, ← c .before .before .before .before .before .before .before .before .before .before .before .before .before .before .before .before .before .before .before .before .before .before .before .before .copy2 .ensures, ← c .before .before .before .before .before .before .before .before .settle .ensures, ← z)
+returns c = let s = c .before .before .before .before .before .before .before .before .before .before .before .before .before .before .before .before .before .before .before .before .before .before .before .before .before .before .before .before .before .before .before .before .before .before .args in let p = c .before .before .before .before .before .before .before .before .before .before .before .before .before .before .before .before .before .before .before .before .before .before .before .before .before .before .before .before .before .before .before .before .before .before .pre in let f = settle-steps (s .halfedges) (s .vertices) (s .capacity) (s .props) (s .references .now) (s .tolerance) (s .e .0) (s .rows .now) (s .positions .now) (c .before .before .before .before .before .before .before .before .before .before .before .before .before .before .before .before .before .before .try-edge .ensures .0) (p .0 .0) (p .0 .1 .0) (p .0 .1 .1 .0) (p .1 .0 .0) (p .1 .0 .1 .0) in let l : s .vertices ≤ lent-triples (s .positions .now) = omega (arith, p .1 .0 .0, p .1 .0 .1 .0) in let z = filled-again 0 (s .room) (s .list .now) _ _ (drop-more (s .halfedges) (s .room) _ _ (p .1 .1 .1 .1 .0) (c .before .before .before .before .before .before .before .before .before .before .before .before .before .before .before .before .before .before .try-edge .ensures .1) ∙ sym (filled-beyond 0 (s .room) (s .list .now))) (c .before .before .before .zero-u32 .ensures) in rw (c .answer .ensures, ← (c .before .before .before .before .before .before .before .before .before .before .before .before .before .before .before .before .before .before .try-edge .ensures .0), ← settle-same (s .halfedges) (s .vertices) (s .rows .now) (s .spare-halfedges .now) (s .positions .now) (s .spare-positions .now) _ (p .0 .1 .1 .0) l (f .frame), ← c .before .before .before .before .before .before .before .before .before .before .before .before .before .before .before .before .before .before .before .before .before .before .before .before .before .before .before .before .copy .ensures, ← c .before .before .before .before .before .before .before .before .before .before .before .before .before .before .before .before .before .before .before .before .before .before .before .before .copy2 .ensures, ← c .before .before .before .before .before .before .before .before .settle .ensures, ← z)
 
 pub collapse-settled-spec : {M : Type 1} → statement M
 collapse-settled-spec =

@@ -53,7 +53,7 @@ returns c =
     let e = rw (c .before .before .before .before .before .before .before .before .before .before .before .before .before .begun .ensures) at (c .before .before .before .before .before .before .before .before .before .before .before .before .loop-step .ensures .0) in
     let f = loop-keeps (s .halfedges) (s .capacity) (s .a .0) (s .b .0) (begin (s .rows .now) (s .positions .now) (s .vertices)) e (p .0 .0) (p .0 .1) (p .1 .0 .0) (p .1 .0 .1 .0) (p .1 .1 .0) (p .1 .1 .1 .0 .0) in
     let l : s .vertices ≤ lent-triples (s .positions .now) = omega (arith, p .1 .1 .0, p .1 .1 .1 .0 .0) in
-    rw (c .answer .ensures, ← e, ← settle-same (s .halfedges) (s .vertices) (s .rows .now) (s .saved .now) (s .positions .now) (s .held .now) _ (p .1 .0 .1 .0) l f, ← c .before .before .before .before .before .before .before .before .before .before .before .before .before .before .before .before .before .before .before .before .before .before .copy .ensures, ← c .before .before .before .before .before .before .before .before .before .before .before .before .before .before .before .before .before .before .copy2 .ensures, ← c .before .before .before .before .settle .ensures)
+    rw (c .answer .ensures, ← e, ← settle-same (s .halfedges) (s .vertices) (s .rows .now) (s .spare-halfedges .now) (s .positions .now) (s .spare-positions .now) _ (p .1 .0 .1 .0) l f, ← c .before .before .before .before .before .before .before .before .before .before .before .before .before .before .before .before .before .before .before .before .before .before .copy .ensures, ← c .before .before .before .before .before .before .before .before .before .before .before .before .before .before .before .before .before .before .copy2 .ensures, ← c .before .before .before .before .settle .ensures)
 
 pub form-at-spec : {M : Type 1} → statement M
 form-at-spec =

@@ -29,14 +29,14 @@ slice-aggregate-words-2 c = search needs
 words-requires-2 : tie.Need-words-requires-2
 words-requires-2 c κs = search needs
 
-array-borrow-prefix-saved : tie.Need-array-borrow-prefix-saved
-array-borrow-prefix-saved c = search needs
+array-borrow-prefix-spare-halfedges : tie.Need-array-borrow-prefix-spare-halfedges
+array-borrow-prefix-spare-halfedges c = search needs
 
 slice-aggregate-call-cleanup-topology : tie.Need-slice-aggregate-call-cleanup-topology
 slice-aggregate-call-cleanup-topology c = sym (length-take-le _ _ (c .before .before .before .before .before .before .before .before .before .before .before .before .before .before .before .signed-list .ensures))
 
-array-borrow-prefix-held : tie.Need-array-borrow-prefix-held
-array-borrow-prefix-held c = search needs
+array-borrow-prefix-spare-positions : tie.Need-array-borrow-prefix-spare-positions
+array-borrow-prefix-spare-positions c = search needs
 
 slice-aggregate-call-cleanup-topology-2 : tie.Need-slice-aggregate-call-cleanup-topology-2
 slice-aggregate-call-cleanup-topology-2 c = sym (length-take-le _ _ (c .before .before .before .before .before .before .before .before .before .before .before .before .before .list .ensures))
@@ -83,9 +83,9 @@ cleanup-topology-spec =
     words-requires
     slice-aggregate-words-2
     words-requires-2
-    array-borrow-prefix-saved
+    array-borrow-prefix-spare-halfedges
     slice-aggregate-call-cleanup-topology
-    array-borrow-prefix-held
+    array-borrow-prefix-spare-positions
     slice-aggregate-call-cleanup-topology-2
     array-borrow-prefix-work
     slice-aggregate-call-cleanup-topology-3

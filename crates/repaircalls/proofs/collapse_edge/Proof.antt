@@ -23,14 +23,14 @@ slice-aggregate-words c = search needs
 words-requires : tie.Need-words-requires
 words-requires c κs = search needs
 
-array-borrow-prefix-saved : tie.Need-array-borrow-prefix-saved
-array-borrow-prefix-saved c = search needs
+array-borrow-prefix-spare-halfedges : tie.Need-array-borrow-prefix-spare-halfedges
+array-borrow-prefix-spare-halfedges c = search needs
 
 slice-aggregate-call-collapse-edge : tie.Need-slice-aggregate-call-collapse-edge
 slice-aggregate-call-collapse-edge c = sym (length-take-le _ _ (c .before .before .before .before .before .before .before .before .before .before .signed-list .ensures))
 
-array-borrow-prefix-held : tie.Need-array-borrow-prefix-held
-array-borrow-prefix-held c = search needs
+array-borrow-prefix-spare-positions : tie.Need-array-borrow-prefix-spare-positions
+array-borrow-prefix-spare-positions c = search needs
 
 slice-aggregate-call-collapse-edge-2 : tie.Need-slice-aggregate-call-collapse-edge-2
 slice-aggregate-call-collapse-edge-2 c = sym (length-take-le _ _ (c .before .before .before .before .before .before .before .before .list .ensures))
@@ -63,9 +63,9 @@ collapse-edge-spec =
     list-requires
     slice-aggregate-words
     words-requires
-    array-borrow-prefix-saved
+    array-borrow-prefix-spare-halfedges
     slice-aggregate-call-collapse-edge
-    array-borrow-prefix-held
+    array-borrow-prefix-spare-positions
     slice-aggregate-call-collapse-edge-2
     array-borrow-prefix-list
     slice-aggregate-call-collapse-edge-3

@@ -17,14 +17,14 @@ slice-aggregate-list c = search needs
 list-requires : tie.Need-list-requires
 list-requires c κs = search needs
 
-array-borrow-prefix-saved : tie.Need-array-borrow-prefix-saved
-array-borrow-prefix-saved c = search needs
+array-borrow-prefix-spare-halfedges : tie.Need-array-borrow-prefix-spare-halfedges
+array-borrow-prefix-spare-halfedges c = search needs
 
 slice-aggregate-call-dedupe-edge : tie.Need-slice-aggregate-call-dedupe-edge
 slice-aggregate-call-dedupe-edge c = sym (length-take-le _ _ (c .before .before .before .before .before .before .before .before .before .signed-list .ensures))
 
-array-borrow-prefix-held : tie.Need-array-borrow-prefix-held
-array-borrow-prefix-held c = search needs
+array-borrow-prefix-spare-positions : tie.Need-array-borrow-prefix-spare-positions
+array-borrow-prefix-spare-positions c = search needs
 
 slice-aggregate-call-dedupe-edge-2 : tie.Need-slice-aggregate-call-dedupe-edge-2
 slice-aggregate-call-dedupe-edge-2 c = sym (length-take-le _ _ (c .before .before .before .before .before .before .before .list .ensures))
@@ -55,9 +55,9 @@ dedupe-edge-spec =
     signed-list-requires
     slice-aggregate-list
     list-requires
-    array-borrow-prefix-saved
+    array-borrow-prefix-spare-halfedges
     slice-aggregate-call-dedupe-edge
-    array-borrow-prefix-held
+    array-borrow-prefix-spare-positions
     slice-aggregate-call-dedupe-edge-2
     call-dedupe-edge-requires
     same-length

@@ -17,14 +17,14 @@ slice-aggregate-list c = search needs
 list-requires : tie.Need-list-requires
 list-requires c κs = search needs
 
-array-borrow-prefix-saved : tie.Need-array-borrow-prefix-saved
-array-borrow-prefix-saved c = search needs
+array-borrow-prefix-spare-halfedges : tie.Need-array-borrow-prefix-spare-halfedges
+array-borrow-prefix-spare-halfedges c = search needs
 
 slice-aggregate-form-loop : tie.Need-slice-aggregate-form-loop
 slice-aggregate-form-loop c = sym (length-take-le _ _ (c .before .before .before .before .before .before .before .signed-list .ensures))
 
-array-borrow-prefix-held : tie.Need-array-borrow-prefix-held
-array-borrow-prefix-held c = search needs
+array-borrow-prefix-spare-positions : tie.Need-array-borrow-prefix-spare-positions
+array-borrow-prefix-spare-positions c = search needs
 
 slice-aggregate-form-loop-2 : tie.Need-slice-aggregate-form-loop-2
 slice-aggregate-form-loop-2 c = sym (length-take-le _ _ (c .before .before .before .before .before .list .ensures))
@@ -49,9 +49,9 @@ read-loop-spec =
     signed-list-requires
     slice-aggregate-list
     list-requires
-    array-borrow-prefix-saved
+    array-borrow-prefix-spare-halfedges
     slice-aggregate-form-loop
-    array-borrow-prefix-held
+    array-borrow-prefix-spare-positions
     slice-aggregate-form-loop-2
     form-loop-requires
     same-length

@@ -54,8 +54,8 @@ returns c =
     let p = c .before .before .before .before .before .before .before .before .before .before .before .before .before .before .before .before .before .before .before .before .before .before .before .before .before .before .before .before .before .before .before .before .before .before .before .before .before .before .pre in
     let e = rw (c .before .before .before .before .before .before .before .before .before .before .before .before .before .before .before .before .before .before .before .before .before .begun .ensures) at (c .before .before .before .before .before .before .before .before .before .before .before .before .before .before .before .before .before .before .before .before .dedupe-step .ensures .0) in
     let g = dedupe-keeps (s .limits) (s .e .0) (begun (s .halfedges) (s .vertices) (s .rows .now) (s .positions .now) (s .normals .now) (s .references .now)) e (p .1 .0) in
-    let q = ends-settled (s .limits) (s .halfedges) (s .vertices) (s .rows .now) (s .saved .now) (s .positions .now) (s .held .now) (s .normals .now) (s .references .now) _ _ (p .1 .0) g (c .before .before .before .before .before .before .before .before .before .before .before .before .before .before .before .before .before .before .before .before .before .before .before .before .before .before .before .before .before .before .before .before .copy .ensures) (c .before .before .before .before .before .before .before .before .before .before .before .before .before .before .before .before .before .before .before .before .before .before .before .before .before .before .before .before .copy2 .ensures) (c .before .before .before .before .before .before .before .settle-grown .ensures) in
-    settled-left (s .limits) (s .halfedges) (s .vertices) (s .e .0) (s .rows .now) (s .saved .now) (s .positions .now) (s .held .now) (s .normals .now) (s .references .now) _ _ e (c .before .before .before .before .before .before .before .before .before .before .before .before .before .before .before .before .before .before .before .before .before .before .before .before .before .before .before .before .before .before .before .before .copy .ensures) (c .before .before .before .before .before .before .before .before .before .before .before .before .before .before .before .before .before .before .before .before .before .before .before .before .before .before .before .before .copy2 .ensures) q (c .answer .ensures)
+    let q = ends-settled (s .limits) (s .halfedges) (s .vertices) (s .rows .now) (s .spare-halfedges .now) (s .positions .now) (s .spare-positions .now) (s .normals .now) (s .references .now) _ _ (p .1 .0) g (c .before .before .before .before .before .before .before .before .before .before .before .before .before .before .before .before .before .before .before .before .before .before .before .before .before .before .before .before .before .before .before .before .copy .ensures) (c .before .before .before .before .before .before .before .before .before .before .before .before .before .before .before .before .before .before .before .before .before .before .before .before .before .before .before .before .copy2 .ensures) (c .before .before .before .before .before .before .before .settle-grown .ensures) in
+    settled-left (s .limits) (s .halfedges) (s .vertices) (s .e .0) (s .rows .now) (s .spare-halfedges .now) (s .positions .now) (s .spare-positions .now) (s .normals .now) (s .references .now) _ _ e (c .before .before .before .before .before .before .before .before .before .before .before .before .before .before .before .before .before .before .before .before .before .before .before .before .before .before .before .before .before .before .before .before .copy .ensures) (c .before .before .before .before .before .before .before .before .before .before .before .before .before .before .before .before .before .before .before .before .before .before .before .before .before .before .before .before .copy2 .ensures) q (c .answer .ensures)
 
 pub dedupe-settled-spec : {M : Type 1} → statement M
 dedupe-settled-spec =

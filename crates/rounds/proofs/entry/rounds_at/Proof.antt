@@ -27,8 +27,8 @@ rounds-settled-requires c κs =
       (
         (le-refl _, le-refl _),
         record {
-          rows-saved = omega (arith, p .1 .rows-saved, c .before .before .before .before .before .before .before .before .before .before .before .before .before .before .before .copy .kept .1 .0);
-          positions-held = omega (arith, p .1 .positions-held, c .before .before .before .before .before .before .before .before .before .before .before .copy2 .kept .1 .0);
+          halfedges-spared = omega (arith, p .1 .halfedges-spared, c .before .before .before .before .before .before .before .before .before .before .before .before .before .before .before .copy .kept .1 .0);
+          positions-spared = omega (arith, p .1 .positions-spared, c .before .before .before .before .before .before .before .before .before .before .before .copy2 .kept .1 .0);
           capacity-long = le-refl _;
           work-long = p .1 .work-long;
           list-long = p .1 .list-long;
@@ -70,7 +70,7 @@ returns c =
     let p = c .before .before .before .before .before .before .before .before .before .before .before .before .before .before .before .before .before .before .before .before .before .before .before .before .before .before .before .before .before .before .before .before .before .before .before .pre in
     let e = rw (c .before .before .before .before .before .before .before .before .before .before .before .before .begun .ensures) at (c .before .before .before .before .before .before .before .before .before .before .before .rounds-settled .ensures) in
     let g = rounds-grew (s .limits) (s .halfedges) (begun (s .halfedges) (s .vertices) (s .rows .now) (s .positions .now) (s .normals .now) (s .references .now)) (p .0) in
-    let q = ends-settled (s .limits) (s .halfedges) (s .vertices) (s .rows .now) (s .saved .now) (s .positions .now) (s .held .now) (s .normals .now) (s .references .now) _ _ (p .0) g (c .before .before .before .before .before .before .before .before .before .before .before .before .before .before .before .before .before .before .before .before .before .before .before .before .before .before .before .copy .ensures) (c .before .before .before .before .before .before .before .before .before .before .before .before .before .before .before .before .before .before .before .before .before .before .before .copy2 .ensures) (e .0) in
+    let q = ends-settled (s .limits) (s .halfedges) (s .vertices) (s .rows .now) (s .spare-halfedges .now) (s .positions .now) (s .spare-positions .now) (s .normals .now) (s .references .now) _ _ (p .0) g (c .before .before .before .before .before .before .before .before .before .before .before .before .before .before .before .before .before .before .before .before .before .before .before .before .before .before .before .copy .ensures) (c .before .before .before .before .before .before .before .before .before .before .before .before .before .before .before .before .before .before .before .before .before .before .before .copy2 .ensures) (e .0) in
     left-as _ (c .before .before .before .before .before .before .before .before .before .before .before .before .before .before .before .before .before .before .before .before .before .before .before .before .before .before .before .copy .ensures) (c .before .before .before .before .before .before .before .before .before .before .before .before .before .before .before .before .before .before .before .before .before .before .before .copy2 .ensures) (e .1 .0) (e .1 .1) q (c .answer .ensures)
 
 pub rounds-at-spec : {M : Type 1} → statement M

@@ -16,7 +16,7 @@ settle-grown-requires : tie.Need-settle-grown-requires
 settle-grown-requires c κs =
     let p = c .before .before .before .before .before .before .before .before .before .before .before .before .before .before .before .before .before .before .before .before .before .before .before .before .before .before .before .pre in
     let m = c .before .before .before .before .before .before .before .before .before .before .before .before .before .before .before .rounds .ensures .1 .0 in
-    fitting-settles _ _ _ (p .1 .1 .rows-saved) (p .1 .1 .positions-held) (omega (arith, p .1 .0 .0, m .0 .halfedges-grow)) (omega (arith, p .1 .0 .1, m .0 .vertices-grow)) (m .1)
+    fitting-settles _ _ _ (p .1 .1 .halfedges-spared) (p .1 .1 .positions-spared) (omega (arith, p .1 .0 .0, m .0 .halfedges-grow)) (omega (arith, p .1 .0 .1, m .0 .vertices-grow)) (m .1)
 
 zero-u32-requires : tie.Need-zero-u32-requires
 zero-u32-requires c κs = (omega arith, omega (arith, c .before .before .before .before .before .before .before .before .before .before .before .before .before .before .before .before .before .before .before .before .before .before .before .before .before .before .before .before .before .before .before .before .before .before .before .pre .1 .1 .work-long, c .before .before .before .before .before .before .before .before .before .before .before .before .before .before .before .before .before .before .before .before .before .before .before .rounds .kept .1 .1 .1 .1 .0))
@@ -47,7 +47,7 @@ returns c =
     let s = c .before .before .before .before .before .before .before .before .before .before .before .before .before .before .before .before .before .before .before .before .before .before .before .before .before .before .before .before .before .before .before .before .before .before .before .before .before .before .before .before .before .before .args in
     let p = c .before .before .before .before .before .before .before .before .before .before .before .before .before .before .before .before .before .before .before .before .before .before .before .before .before .before .before .before .before .before .before .before .before .before .before .before .before .before .before .before .before .before .pre in
     let e = c .before .before .before .before .before .before .before .before .before .before .before .before .before .before .before .before .before .before .before .before .before .before .before .before .before .before .before .before .before .before .rounds .ensures in
-    (c .before .before .before .before .before .before .before .before .before .before .before .before .before .before .settle-grown .ensures ∙ ap (λ (x : Rounded). settled-by (s .limits) (s .halfedges) (s .vertices) (s .saved .now) (s .held .now) (x .growing)) (e .0), (cleared-same (s .limits .halfedges) (s .long) _ (s .work .now) (p .1 .1 .capacity-long) (e .1 .1 .0) (c .before .before .before .before .before .before .zero-u32 .ensures), cleared-same (s .limits .halfedges) (s .limits .halfedges) _ (s .list .now) (le-refl _) (e .1 .1 .1) (c .before .before .zero-u322 .ensures)))
+    (c .before .before .before .before .before .before .before .before .before .before .before .before .before .before .settle-grown .ensures ∙ ap (λ (x : Rounded). settled-by (s .limits) (s .halfedges) (s .vertices) (s .spare-halfedges .now) (s .spare-positions .now) (x .growing)) (e .0), (cleared-same (s .limits .halfedges) (s .long) _ (s .work .now) (p .1 .1 .capacity-long) (e .1 .1 .0) (c .before .before .before .before .before .before .zero-u32 .ensures), cleared-same (s .limits .halfedges) (s .limits .halfedges) _ (s .list .now) (le-refl _) (e .1 .1 .1) (c .before .before .zero-u322 .ensures)))
 
 pub rounds-settled-spec : {M : Type 1} → statement M
 rounds-settled-spec =
