@@ -1,6 +1,6 @@
 -- Two triangles that have folded onto each other are taken out: the step of remove_if_folded on a net in the middle of an operation.
 -- e is the edge and f its partner; e1, e2 and f1, f2 are the second and third rows of their triangles.
-use mathlib.Core.Bool.{Bool, true, false, cond, _&&_, _||_, not}
+use mathlib.Core.Bool.{Bool, false, cond, _&&_, _||_, not}
 use mathlib.Core.List.{List}
 use Prim.Native.Nat.{ℕ}
 use lib.Dec.{eqb, leb}

@@ -1,21 +1,17 @@
-// Taking two triangles out that have folded onto each other: the step of remove_if_folded, and its entry. e is the edge and f its
-// partner; e1, e2 and f1, f2 are the second and third rows of their triangles.
+// Taking two triangles out that have folded onto each other: the step of remove_if_folded, whose entry is the crate removefolded.
+// e is the edge and f its partner; e1, e2 and f1, f2 are the second and third rows of their triangles.
 ghost use mathlib.Core.Path.{_≡_};
 ghost use mathlib.Core.List.{List};
-ghost use Prim.Native.Nat.{ℕ, _<_, _≤_};
+ghost use Prim.Native.Nat.{ℕ, _<_};
 ghost use Rattle.numbers.specs.Next.{next};
-ghost use Rattle.numbers.specs.Numbers.{halfedgeNumber, names};
+ghost use Rattle.numbers.specs.Numbers.{halfedgeNumber};
 ghost use Rattle.rows.specs.Halfedges.{lent-halfedges};
-ghost use Rattle.net.specs.Net.{net};
 ghost use Rattle.steps.specs.Steps.{middle, InUse, VerticesIn};
-ghost use Rattle.folds.specs.Folds.{lose, lose-folded, has-pair, joined, join, cleared, cleared3, clear, take-out, fold-at, fold};
-ghost use Rattle.folds.specs.RemoveIfFolded.{foldNamed, removeIfFolded, removeSaid};
-use net::Counts;
+ghost use Rattle.folds.specs.Folds.{lose, lose-folded, has-pair, joined, join, cleared, clear, take-out, fold-at, fold};
 use numbers::Halfedge;
 use numbers::NamedHalfedge;
 use numbers::NamedVertex;
 use rows::triples::Bits3;
-use soundness::Checked;
 use steps::Run;
 
 const NAN: u64 = 0x7FF8_0000_0000_0000;
@@ -230,66 +226,4 @@ pub fn fold_step(
         return steps::stopped(run);
     };
     fold_at(rows, positions, halfedges, run, e, f)
-}
-
-// What remove_if_folded answers.
-pub enum RemoveIfFolded {
-    Done,
-    Shape,
-    Unsound(Halfedge),
-    Number,
-    Dead,
-}
-
-// Takes out the triangles at the half-edge that a caller's number names.
-fn fold_named(
-    rows: &mut [i32],
-    positions: &mut [u64],
-    halfedges: usize,
-    vertices: usize,
-    halfedge: i32,
-) -> RemoveIfFolded
-    requires { ⌜ InUse halfedges (now rows) × VerticesIn vertices (now positions) ⌝ }
-    ensures { λ r. ⌜ (removeSaid r, (now (rows .exit), now (positions .exit))) ≡ foldNamed halfedges vertices (now (rows .entry)) (now (positions .entry)) (names halfedge halfedges) ⌝ }
-{
-    let NamedHalfedge::At(e) = numbers::halfedge_given(halfedge, halfedges) else {
-        return RemoveIfFolded::Number;
-    };
-    if !rows::corners::paired(rows, e.number()) {
-        return RemoveIfFolded::Dead;
-    }
-    fold_step(rows, positions, halfedges, steps::begun(vertices), e);
-    RemoveIfFolded::Done
-}
-
-// The entry remove_if_folded.
-pub fn remove_if_folded(
-    counts: Counts,
-    halfedges: &mut [i32],
-    positions: &mut [u64],
-    normals: &[u64],
-    references: &[i32],
-    properties: &[u64],
-    halfedge: i32,
-) -> RemoveIfFolded
-    ensures { λ r. ⌜ (removeSaid r, (now (halfedges .exit), now (positions .exit))) ≡ removeIfFolded counts (net (now (halfedges .entry)) (now (positions .entry)) (now (normals .entry)) (now (references .entry)) (now (properties .entry))) halfedge ⌝ }
-{
-    match soundness::check_net(
-        counts,
-        halfedges,
-        positions,
-        normals,
-        references,
-        properties,
-    ) {
-        Checked::Shape => RemoveIfFolded::Shape,
-        Checked::Unsound(h) => RemoveIfFolded::Unsound(h),
-        Checked::Sound => fold_named(
-            halfedges,
-            positions,
-            counts.halfedges,
-            counts.vertices,
-            halfedge,
-        ),
-    }
 }

@@ -17,9 +17,9 @@ use Rattle.net.proofs.Sound.{paired-live}
 use Rattle.soundness.proofs.Told.{check-sound}
 use Rattle.steps.specs.Steps.{Middle, begin}
 use Rattle.folds.specs.Folds.{fold}
-use Rattle.folds.specs.RemoveIfFolded.{foldNamed, removeIfFolded}
+use Rattle.removefolded.specs.RemoveIfFolded.{foldNamed, removeIfFolded}
 use Rattle.folds.proofs.Kept.{frame-fold}
-use Rattle.folds.proofs.Told.{remove-done}
+use Rattle.removefolded.proofs.Told.{remove-done}
 use Rattle.foldsound.specs.Removed.{Removed}
 use Rattle.foldsound.proofs.Steps.{fold-left, fold-in-order}
 

@@ -20,7 +20,7 @@ use Rattle.splitting.specs.Split.{Outcome, splitPinched}
 use Rattle.splitting.specs.Told.{IsFull}
 use Rattle.splitsound.specs.Demand.{Demand3}
 use Rattle.splitsound.proofs.Told.{demand-3}
-use Rattle.loops.specs.FormLoop.{formLoop}
+use Rattle.formloop.specs.FormLoop.{formLoop}
 use Rattle.loopsound.proofs.Told.{form-no-room}
 
 -- half-edges, vertices, a reference and a normal for each triangle or none, and property rows

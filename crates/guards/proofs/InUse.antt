@@ -14,7 +14,7 @@ use Rattle.rowtests.specs.Order.{live as is-live, in-order, first-failing}
 use Rattle.pairing.specs.Pairing.{paired, pairUp}
 use Rattle.steps.specs.Steps.{Middle, begin, Stopped, ended}
 use Rattle.walks.specs.Walk.{onward, moved, walk, update, reaches}
-use Rattle.walks.specs.UpdateVert.{updateAt, updateNamed, updateVert}
+use Rattle.updatevert.specs.UpdateVert.{updateAt, updateNamed, updateVert}
 use Rattle.triangles.specs.Triangles.{emptied, collapsed, collapse}
 use Rattle.folds.specs.Folds.{lose, lose-folded, has-pair, joined, join, cleared, clear, take-out, fold-at, fold}
 use Rattle.ownertests.specs.declared.Eligible.the-variants as E

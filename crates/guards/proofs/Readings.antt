@@ -17,7 +17,7 @@ use Rattle.pairing.specs.Pairing.{paired, pairUp}
 use Rattle.steps.specs.Steps.{begin}
 use Rattle.walks.specs.Walk.{onward, moved, walk, update, reaches}
 use Rattle.triangles.specs.Triangles.{emptied, collapsed, collapse}
-use Rattle.loops.specs.FormLoop.{formNamed, formLoop}
+use Rattle.formloop.specs.FormLoop.{formNamed, formLoop}
 use Rattle.example.specs.Example.{live, dead as gone, P-positions, counts, bare}
 
 -- −2147483648 has a next, −2147483647, which has none: so it has no triangle

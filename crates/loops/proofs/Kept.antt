@@ -1,13 +1,9 @@
 -- What the step of form_loop leaves alone, on any rows: the free rows behind those that it leaves in use.
 use mathlib.Core.Path.{_≡_, refl, _∙_}
-use mathlib.Core.Bool.{Bool, true, false, cond}
-use mathlib.Core.List.{List}
 use Prim.Native.Nat.{ℕ, _+_, _%_, _<_, _≤_}
 use native.Mathlib.Omega.{arith}
 use borrow.Author.Tests.{leb-false}
 use lib.Dec.{leb}
-use lib.IntN.{ℤ}
-use lib.ListN.{length}
 use Rattle.laws.proofs.Tests.{by-test}
 use Rattle.numbers.specs.Numbers.{Named, at, nothing, names, named-or}
 use Rattle.rows.specs.Halfedges.{Column, start, end, column, pairOf, lent-halfedges}

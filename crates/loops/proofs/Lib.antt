@@ -1,3 +1,1 @@
 pub mod Kept
-pub mod Told
-pub mod Cases

@@ -1,9 +1,7 @@
 -- Forming a loop: the step of form_loop on a net in the middle of an operation, as a row of steps.
 use mathlib.Core.Bool.{cond}
-use mathlib.Core.List.{List}
 use Prim.Native.Nat.{ℕ, _+_}
 use lib.Dec.{leb}
-use lib.IntN.{ℤ}
 use Rattle.numbers.specs.Numbers.{names, named-or}
 use Rattle.rows.specs.Halfedges.{Column, start, end, column, pairOf}
 use Rattle.rows.specs.Triples.{triple, put-triple}

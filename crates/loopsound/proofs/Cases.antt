@@ -15,7 +15,7 @@ use Rattle.walks.specs.Walk.{onward, moved, walk, update}
 use Rattle.folds.specs.Folds.{has-pair, fold-at, fold}
 use Rattle.example.specs.Example.{live, counts, bare}
 use Rattle.loops.specs.Loops.{append, copy, exchange, cross-at, cross, loop-at}
-use Rattle.loops.specs.FormLoop.{Left, left, formAt, formNamed, formLoop}
+use Rattle.formloop.specs.FormLoop.{Left, left, formAt, formNamed, formLoop}
 
 -- tetrahedra 0123 and 0145, three rows a triangle, with the pairs crossed at their edges 0–1: row 0 is paired with 17, row 12 with 5
 abbrev crossed-over : List ℤ

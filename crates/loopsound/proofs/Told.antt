@@ -32,7 +32,7 @@ use Rattle.steps.specs.declared.How.the-variants as W
 use Rattle.steps.specs.Steps.{Middle, refused, is-refused, begin, how-said}
 use Rattle.walks.specs.Way.{Reached}
 use Rattle.loops.specs.Loops.{loop-at}
-use Rattle.loops.specs.FormLoop.{Left, left, formAt, formNamed, formLoop}
+use Rattle.formloop.specs.FormLoop.{Left, left, formAt, formNamed, formLoop}
 use Rattle.loops.proofs.Kept.{frame-loop}
 use Rattle.loopsound.specs.Formed.{Formed, looped, full, halted, Spared}
 use Rattle.loopsound.proofs.Steps.{Comes, comes, loop-left, loop-in-order}

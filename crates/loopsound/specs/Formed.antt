@@ -13,7 +13,7 @@ use Rattle.rows.specs.Triples.{triple, triples-from, over-triples, zero-triples
 use Rattle.net.specs.Sound.{start-vertex, end-vertex, partner, Live}
 use Rattle.walks.specs.Way.{Reached, OnWay}
 use Rattle.foldsound.specs.Removed.{Removed}
-use Rattle.loops.specs.FormLoop.{Left}
+use Rattle.formloop.specs.FormLoop.{Left}
 
 -- on one side, the way from p to q, the rows end at the first copy and their nexts start there; on the other, the way from b to a, at
 -- the second; a and q are paired, and b and p; every other number is as it was

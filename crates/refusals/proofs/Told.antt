@@ -23,11 +23,11 @@ use Rattle.steps.specs.Steps.{begin, refused, how-said}
 use Rattle.steps.specs.Entries.{past}
 use Rattle.pairing.specs.Pairing.{pairNamed, pairUp}
 use Rattle.walks.specs.Walk.{reaches}
-use Rattle.walks.specs.UpdateVert.{updateAt, updateNamed, updateVert}
-use Rattle.triangles.specs.CollapseTri.{collapseNamed, collapseTri}
-use Rattle.folds.specs.RemoveIfFolded.{foldNamed, removeIfFolded}
+use Rattle.updatevert.specs.UpdateVert.{updateAt, updateNamed, updateVert}
+use Rattle.collapsetri.specs.CollapseTri.{collapseNamed, collapseTri}
+use Rattle.removefolded.specs.RemoveIfFolded.{foldNamed, removeIfFolded}
 use Rattle.loops.specs.Loops.{loop-at}
-use Rattle.loops.specs.FormLoop.{Left, left, formAt, formNamed, formLoop}
+use Rattle.formloop.specs.FormLoop.{Left, left, formAt, formNamed, formLoop}
 use Rattle.ownertests.specs.declared.Eligible.{Eligible}
 use Rattle.ownertests.specs.Tests.{has-owners}
 use Rattle.owners.specs.Scan.{scan, orbitOwners}

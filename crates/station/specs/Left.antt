@@ -13,7 +13,7 @@ use Rattle.repairtold.specs.declared.DedupeEdgesAnswer.{DedupeEdgesAnswer}
 use Rattle.repairtold.specs.declared.CleanupTopologyAnswer.{CleanupTopologyAnswer}
 use Rattle.repairtold.specs.Told.{edge-told, edges-told, cleanup-told, collapse-told}
 use Rattle.owners.specs.Scan as owners
-use Rattle.loops.specs.FormLoop.{Left}
+use Rattle.formloop.specs.FormLoop.{Left}
 use Rattle.splitting.specs.Split.{Outcome}
 use Rattle.dedupe.specs.DedupeEdge as edge
 use Rattle.rounds.specs.DedupeEdges as edges

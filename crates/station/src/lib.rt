@@ -8,10 +8,10 @@ ghost use Rattle.net.specs.Net.{net};
 ghost use Rattle.pairing.specs.Pairing.{pairUp};
 ghost use Rattle.splitting.specs.Split.{splitPinched};
 ghost use Rattle.owners.specs.Scan.{orbitOwners};
-ghost use Rattle.walks.specs.UpdateVert.{updateVert};
-ghost use Rattle.triangles.specs.CollapseTri.{collapseTri};
-ghost use Rattle.folds.specs.RemoveIfFolded.{removeIfFolded};
-ghost use Rattle.loops.specs.FormLoop.{formLoop};
+ghost use Rattle.updatevert.specs.UpdateVert.{updateVert};
+ghost use Rattle.collapsetri.specs.CollapseTri.{collapseTri};
+ghost use Rattle.removefolded.specs.RemoveIfFolded.{removeIfFolded};
+ghost use Rattle.formloop.specs.FormLoop.{formLoop};
 ghost use Rattle.dedupe.specs.DedupeEdge.{dedupeEdge};
 ghost use Rattle.rounds.specs.DedupeEdges.{dedupeEdges};
 ghost use Rattle.cleanup.specs.Cleanup.{cleanupTopology};
@@ -154,7 +154,7 @@ pub extern "C" fn spoonferret_update_vert(
 ) -> RowAnswer
     ensures { λ r. ⌜ (r, now (halfedges .exit)) ≡ and-left row-told (updateVert (counts-of used) (net (now (halfedges .entry)) (now (positions .entry)) (now (normals .entry)) (now (references .entry)) (now (properties .entry))) vertex start end) ⌝ }
 {
-    told::of_update(walks::update_vert(
+    told::of_update(updatevert::update_vert(
         told::counts_of(used),
         halfedges,
         positions,
@@ -179,7 +179,7 @@ pub extern "C" fn spoonferret_collapse_tri(
 ) -> RowAnswer
     ensures { λ r. ⌜ (r, now (halfedges .exit)) ≡ and-left row-told (collapseTri (counts-of used) (net (now (halfedges .entry)) (now (positions .entry)) (now (normals .entry)) (now (references .entry)) (now (properties .entry))) halfedge) ⌝ }
 {
-    told::of_collapse(triangles::collapse_tri(
+    told::of_collapse(collapsetri::collapse_tri(
         told::counts_of(used),
         halfedges,
         positions,
@@ -202,7 +202,7 @@ pub extern "C" fn spoonferret_remove_if_folded(
 ) -> RowAnswer
     ensures { λ r. ⌜ (r, (now (halfedges .exit), now (positions .exit))) ≡ and-left row-told (removeIfFolded (counts-of used) (net (now (halfedges .entry)) (now (positions .entry)) (now (normals .entry)) (now (references .entry)) (now (properties .entry))) halfedge) ⌝ }
 {
-    told::of_remove(folds::remove_if_folded(
+    told::of_remove(removefolded::remove_if_folded(
         told::counts_of(used),
         halfedges,
         positions,
@@ -229,7 +229,7 @@ pub extern "C" fn spoonferret_form_loop(
     ensures { λ r. ⌜ (r, now (halfedges .exit), now (positions .exit), now («spare_halfedges» .exit), now («spare_positions» .exit))
         ≡ loop-left (formLoop (counts-of used) (net (now (halfedges .entry)) (now (positions .entry)) (now (normals .entry)) (now (references .entry)) (now (properties .entry))) (now («spare_halfedges» .entry)) (now («spare_positions» .entry)) first second) ⌝ }
 {
-    told::of_loop(loops::form_loop(
+    told::of_loop(formloop::form_loop(
         told::counts_of(used),
         halfedges,
         positions,

@@ -20,7 +20,7 @@ use Rattle.net.specs.Counts.{is-shaped, triangle-capacity-over, vertex-capacity
 use Rattle.net.specs.Sound.{turn}
 use Rattle.example.specs.Example.{rows, positions, P-rows, P-positions, counts, bare}
 use Rattle.folds.specs.Folds.{lose, lose-folded, has-pair, joined, join, cleared, clear, take-out, fold-at, fold}
-use Rattle.folds.specs.RemoveIfFolded.{Out, foldNamed, removeIfFolded}
+use Rattle.removefolded.specs.RemoveIfFolded.{Out, foldNamed, removeIfFolded}
 use Rattle.pairing.specs.Pairing.{paired}
 use Rattle.soundness.specs.Check.{checkNet}
 use Rattle.rowtests.specs.Order.{live, in-order, first-failing}
@@ -28,7 +28,7 @@ use Rattle.splitting.specs.Split.{Outcome, split-sound, splitPinched}
 use Rattle.splitting.specs.Steps.{flag-walk, relabel-walk, count-step, count, split-step, split-rows}
 use Rattle.triangles.specs.Triangles.{emptied, collapsed, collapse}
 use Rattle.turning.specs.Walk.{walk as fan-walk, walk-end}
-use Rattle.walks.specs.UpdateVert.{updateVert, updateNamed, updateAt}
+use Rattle.updatevert.specs.UpdateVert.{updateVert, updateNamed, updateAt}
 use Rattle.walks.specs.Walk.{reaches, walk, onward, moved, update}
 
 pub record Case : Type 0 where

@@ -5,26 +5,26 @@ ghost use Rattle.numbers.specs.Next.{nextSaid, triSaid};
 ghost use Rattle.floats.specs.Short.{lengthSaid};
 ghost use Rattle.soundness.specs.Check.{checkSaid};
 ghost use Rattle.pairing.specs.Pairing.{pairSaid};
-ghost use Rattle.walks.specs.UpdateVert.{updateSaid};
-ghost use Rattle.triangles.specs.CollapseTri.{collapseSaid};
-ghost use Rattle.folds.specs.RemoveIfFolded.{removeSaid};
-ghost use Rattle.loops.specs.FormLoop.{formSaid};
+ghost use Rattle.updatevert.specs.UpdateVert.{updateSaid};
+ghost use Rattle.collapsetri.specs.CollapseTri.{collapseSaid};
+ghost use Rattle.removefolded.specs.RemoveIfFolded.{removeSaid};
+ghost use Rattle.formloop.specs.FormLoop.{formSaid};
 ghost use Rattle.owners.specs.Scan.{ownersSaid};
 ghost use Rattle.split.specs.Answer.{splitSaid};
 ghost use Rattle.told.specs.Told.{counts-of, vector-of, eligible-of, told, next-told, tri-told, length-told, row-told, split-told, owners-told, loop-told, split-refused, loop-refused};
+use collapsetri::CollapseTri;
 use floats::Length;
 use floats::Vec3;
-use folds::RemoveIfFolded;
-use loops::FormLoop;
+use formloop::FormLoop;
 use numbers::Next;
 use numbers::Tri;
 use owners::Owners;
 use ownertests::Eligible;
 use pairing::PairUp;
+use removefolded::RemoveIfFolded;
 use soundness::Checked;
 use split::Split;
-use triangles::CollapseTri;
-use walks::UpdateVert;
+use updatevert::UpdateVert;
 
 // How many rows of each array are in use, and how many numbers a property row has.
 #[repr(C)]

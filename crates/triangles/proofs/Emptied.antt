@@ -1,6 +1,6 @@
 -- What emptying the three rows of a triangle leaves in every column of every row; the step of collapse_tri leaves the free rows
 -- alone.
-use mathlib.Core.Path.{_≡_, refl, ap, _∙_}
+use mathlib.Core.Path.{_≡_, _∙_}
 use mathlib.Core.List.{List}
 use Prim.Native.Nat.{ℕ, _%_, _<_, _≤_}
 use native.Mathlib.Omega.{arith}

@@ -1,2 +1,1 @@
 pub mod Triangles
-pub mod CollapseTri

@@ -1,19 +1,14 @@
-// Taking one triangle out of a net: the step of collapse_tri, and its entry.
+// Taking one triangle out of a net: the step of collapse_tri. Its entry is the crate collapsetri.
 ghost use mathlib.Core.Path.{_≡_};
 ghost use mathlib.Core.List.{List};
-ghost use Prim.Native.Nat.{ℕ, _<_, _≤_};
+ghost use Prim.Native.Nat.{ℕ, _<_};
 ghost use Rattle.laws.specs.Integers.{eqZ};
-ghost use Rattle.numbers.specs.Next.{most-halfedges};
-ghost use Rattle.numbers.specs.Numbers.{halfedgeNumber, names};
+ghost use Rattle.numbers.specs.Numbers.{halfedgeNumber};
 ghost use Rattle.rows.specs.Halfedges.{pairOf, endOf, none, lent-halfedges};
-ghost use Rattle.net.specs.Net.{net};
 ghost use Rattle.steps.specs.Steps.{middle, InUse};
 ghost use Rattle.triangles.specs.Triangles.{emptied, collapsed, collapse};
-ghost use Rattle.triangles.specs.CollapseTri.{collapseNamed, collapseTri, collapseSaid};
-use net::Counts;
 use numbers::Halfedge;
 use numbers::NamedHalfedge;
-use soundness::Checked;
 use steps::Run;
 
 // The pair of h is −1.
@@ -73,54 +68,4 @@ pub fn collapse_step(rows: &mut [i32], halfedges: usize, run: Run, e: Halfedge) 
     };
     collapse_onto(rows, halfedges, e, a, b);
     run
-}
-
-// What collapse_tri answers.
-pub enum CollapseTri {
-    Done,
-    Shape,
-    Unsound(Halfedge),
-    Number,
-    Dead,
-}
-
-// Collapses the triangle of the half-edge that a caller's number names.
-fn collapse_named(rows: &mut [i32], halfedges: usize, halfedge: i32) -> CollapseTri
-    requires { ⌜ InUse halfedges (now rows) ⌝ }
-    ensures { λ r. ⌜ (collapseSaid r, now (rows .exit)) ≡ collapseNamed halfedges (now (rows .entry)) (names halfedge halfedges) ⌝ }
-{
-    let NamedHalfedge::At(e) = numbers::halfedge_given(halfedge, halfedges) else {
-        return CollapseTri::Number;
-    };
-    if !rows::corners::paired(rows, e.number()) {
-        return CollapseTri::Dead;
-    }
-    collapse_step(rows, halfedges, steps::begun(0), e);
-    CollapseTri::Done
-}
-
-// The entry collapse_tri.
-pub fn collapse_tri(
-    counts: Counts,
-    halfedges: &mut [i32],
-    positions: &[u64],
-    normals: &[u64],
-    references: &[i32],
-    properties: &[u64],
-    halfedge: i32,
-) -> CollapseTri
-    ensures { λ r. ⌜ (collapseSaid r, now (halfedges .exit)) ≡ collapseTri counts (net (now (halfedges .entry)) (now (positions .entry)) (now (normals .entry)) (now (references .entry)) (now (properties .entry))) halfedge ⌝ }
-{
-    match soundness::check_net(
-        counts,
-        halfedges,
-        positions,
-        normals,
-        references,
-        properties,
-    ) {
-        Checked::Shape => CollapseTri::Shape,
-        Checked::Unsound(h) => CollapseTri::Unsound(h),
-        Checked::Sound => collapse_named(halfedges, counts.halfedges, halfedge),
-    }
 }

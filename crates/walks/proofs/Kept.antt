@@ -1,9 +1,8 @@
 -- What the walk keeps, on any rows: every pair and prop, and the rows behind those in use. So its step leaves the free rows alone.
 use mathlib.Core.Path.{_≡_, refl, _∙_}
-use mathlib.Core.Bool.{true, false}
+use mathlib.Core.Bool.{false}
 use mathlib.Core.List.{List}
 use Prim.Native.Nat.{ℕ, zero, suc, _%_, _<_}
-use native.Mathlib.Omega.{arith}
 use lib.Dec.{eqb}
 use lib.IntN.{ℤ, pos}
 use lib.ListN.{length}
@@ -11,7 +10,7 @@ use Rattle.laws.proofs.Tests.{by-test}
 use Rattle.numbers.specs.Numbers.{Named, at, nothing, named-or}
 use Rattle.numbers.specs.Next.{next}
 use Rattle.numbers.proofs.NextLaws.{next-in}
-use Rattle.rows.specs.Halfedges.{Column, start, end, pair, prop, offset, column, set-column, rows-from}
+use Rattle.rows.specs.Halfedges.{Column, start, end, offset, column, rows-from}
 use Rattle.rows.proofs.Columns.{other-column, written-below, length-written}
 use Rattle.steps.specs.Steps.{Middle, Stopped}
 use Rattle.steps.proofs.Frame.{Frame, frame-step, frame-cond, frame-rows}

@@ -1,4 +1,3 @@
 pub mod Turns
 pub mod Kept
 pub mod Told
-pub mod Cases

@@ -1,56 +1,30 @@
--- What update_vert does in words: on a sound net, with a vertex in use and two live half-edges, it says 0 exactly when the moves from
--- the first come to the second, 7 exactly when they never do; on 0 the rows on the way are updated and every other number is as it
--- was; on a refusal nothing is changed. And two results that its contract allows agree.
+-- What the walk of update_vert does in words, on rows that are in order, from a live half-edge: whether it comes to its end, and what it
+-- leaves of each row.
 use mathlib.Core.Path.{_≡_, refl, sym, ap, _∙_}
-use mathlib.Core.Bool.{Bool, true, false, cond, true≢false, _&&_}
-use mathlib.Core.List.{List, []}
-use mathlib.Core.Logic.{_⊎_, inl, inr, ⊎-elim, _↔_}
+use mathlib.Core.Bool.{true}
+use mathlib.Core.List.{List}
+use mathlib.Core.Logic.{_⊎_, inl, inr}
 use Prim.Native.Nat.{ℕ, zero, suc, _%_, _<_, _≤_}
 use native.Mathlib.Decide.{ℕ-discrete}
 use native.Mathlib.Omega.{arith}
-use borrow.Author.Tests.{eqb-true, eqb-false, eq-eqb, ne-eqb}
+use borrow.Author.Tests.{eqb-true, eqb-false, eq-eqb}
 use lib.Dec.{eqb}
-use lib.IntN.{ℤ, pos, natAbs}
+use lib.IntN.{ℤ, pos}
 use lib.ListN.{length}
-use lib.Signed.{leZ}
-use Rattle.answers.specs.Answers.{Said, done, shape, unsound, bad-number, dead, stopped}
-use Rattle.answers.proofs.Laws.{numbers-differ, values-agree, first-value, read-back}
-use Rattle.laws.proofs.Integers.{pos-inj}
 use Rattle.laws.proofs.Tests.{by-test}
-use Rattle.numbers.specs.Numbers.{Named, at, nothing, names, named-or}
+use Rattle.numbers.specs.Numbers.{at}
 use Rattle.numbers.specs.Next.{next}
 use Rattle.numbers.proofs.Names.{names-at}
 use Rattle.numbers.proofs.NextLaws.{next-in, next-inj}
-use Rattle.rows.specs.Halfedges.{Column, start, end, pair, prop, offset, column, startOf, endOf, pairOf, set-column, is-paired, lent-halfedges, rows-from}
+use Rattle.rows.specs.Halfedges.{start, end, pair, startOf, endOf, pairOf, lent-halfedges}
 use Rattle.rows.proofs.Columns.{column-written, other-column, other-row, length-written}
-use Rattle.net.specs.declared.Counts.{Counts}
-use Rattle.net.specs.Net.{Net}
-use Rattle.net.specs.Sound.{partner, Paired, InOrder, Live, Sound}
-use Rattle.net.proofs.Shape.{within}
-use Rattle.net.proofs.Sound.{live-dec, live-paired, live-row, next-live, partner-live, partner-inj}
-use Rattle.soundness.specs.Check.{checkNet}
-use Rattle.soundness.proofs.Told.{check-sound}
-use Rattle.turning.specs.Fan.{iter, Reach, Turning}
+use Rattle.net.specs.Sound.{InOrder, Live}
+use Rattle.net.proofs.Sound.{live-dec, live-row, next-live, partner-live, partner-inj}
+use Rattle.turning.specs.Fan.{iter, Turning}
 use Rattle.turning.proofs.Orbit.{iter-suc, period, soon}
-use Rattle.steps.specs.Entries.{past}
-use Rattle.walks.specs.declared.UpdateVert.{UpdateVert}
-use Rattle.walks.specs.declared.UpdateVert.the-variants as U
-use Rattle.walks.specs.Walk.{onward, moved, reaches, walked, walk}
-use Rattle.walks.specs.UpdateVert.{updateSaid, updateAt, updateNamed, updateVert}
-use Rattle.walks.specs.Way.{move, Reached, OnWay, Updated}
-use Rattle.walks.proofs.Kept.{length-moved, other-moved, length-walk, walk-below, other-walk}
-
-not-start : (k : Column) → (k ≡ start → ⊥) → offset k ≡ offset start → ⊥
-not-start start n e = n refl
-not-start end n e = omega arith
-not-start pair n e = omega arith
-not-start prop n e = omega arith
-
-not-end : (k : Column) → (k ≡ end → ⊥) → offset k ≡ offset end → ⊥
-not-end start n e = omega arith
-not-end end n e = n refl
-not-end pair n e = omega arith
-not-end prop n e = omega arith
+use Rattle.walks.specs.Walk.{onward, moved, reaches, walk}
+use Rattle.walks.specs.Way.{move, Reached, OnWay}
+use Rattle.walks.proofs.Kept.{length-moved, other-moved}
 
 -- what a move writes, and what it leaves
 module _ (v h : ℕ) (rows : List ℤ) where
@@ -102,7 +76,7 @@ module _ (H N : ℕ) (rows : List ℤ) (thirds : H % 3 ≡ 0) (lent : H ≤ lent
       (λ t. rw t)
       (λ t. rw (t, goes rows (λ g. refl) l) (reach-yes to n k (move rows here) (move-live l) (omega arith) (sym (iter-suc (move rows) k here) ∙ e)))
 
-  reach-was : (to n here : ℕ) → Live H rows here → reaches H to rows n here ≡ true → Reached rows here to
+  pub reach-was : (to n here : ℕ) → Live H rows here → reaches H to rows n here ≡ true → Reached rows here to
   unfolding reaches
   reach-was to zero here l e = (0, eqb-true here to e)
   reach-was to (suc n) here l e =
@@ -190,106 +164,3 @@ module _ (H N : ℕ) (rows : List ℤ) (thirds : H % 3 ≡ 0) (lent : H ≤ lent
       let p = period moving from a in
       let s = soon moving from p (r .0) in
       (r, told v to H (s .0) from l a same len (omega (arith, s .1, p .le)) (s .2 ∙ r .1))
-
-module _ (c : Counts) (n : Net) (vertex first last : ℤ) where
-  abbrev H : ℕ
-  H = c .halfedges
-
-  -- a sound net, a vertex in use and two live half-edges
-  module _ (sound : Sound c n) (v a b : ℕ) (is-v : vertex ≡ pos v) (v-in : v < c .vertices) (is-a : first ≡ pos a) (a-live : Live H (n .halfedges) a) (is-b : last ≡ pos b) (b-live : Live H (n .halfedges) b) where
-    comes-to : updateVert c n vertex first last ≡ updateAt H v a b (n .halfedges)
-    unfolding updateVert updateNamed
-    comes-to =
-        rw (
-          check-sound c n .1 sound,
-          names-at vertex (c .vertices) v is-v v-in,
-          names-at first H a is-a (a-live .in-use),
-          names-at last H b is-b (b-live .in-use),
-          live-paired H (n .halfedges) a-live,
-          live-paired H (n .halfedges) b-live,
-        )
-
-    thirds : H % 3 ≡ 0
-    thirds = within c n (sound .shaped) .halfedges-thirds
-
-    lent : H ≤ lent-halfedges (n .halfedges)
-    lent = within c n (sound .shaped) .halfedges-lent
-
-    reached-yes : Reached (n .halfedges) a b → reaches H b (n .halfedges) H a ≡ true
-    reached-yes r = reach-soon H (c .vertices) (n .halfedges) thirds lent (sound .in-order) a b a-live r
-
-    reached-was : reaches H b (n .halfedges) H a ≡ true → Reached (n .halfedges) a b
-    reached-was e = reach-was H (c .vertices) (n .halfedges) thirds lent (sound .in-order) b H a a-live e
-
-    pub update-done : (updateVert c n vertex first last .0 ≡ done []) ↔ Reached (n .halfedges) a b
-    unfolding updateAt
-    update-done = rw comes-to (
-      λ e. by-test (reaches H b (n .halfedges) H a) reached-was (λ t. numbers-differ (rw t at e) (λ z. omega arith)),
-      λ r. rw (reached-yes r),
-    )
-
-    pub update-stopped : (updateVert c n vertex first last .0 ≡ stopped) ↔ (Reached (n .halfedges) a b → ⊥)
-    unfolding updateAt
-    update-stopped = rw comes-to (
-      λ e r. numbers-differ (rw (reached-yes r) at e) (λ z. omega arith),
-      λ m. by-test (reaches H b (n .halfedges) H a) (λ t. absurd (m (reached-was t))) (λ t. rw t),
-    )
-
-    pub update-updated : Reached (n .halfedges) a b → Updated H v a b (n .halfedges) (updateVert c n vertex first last .1)
-    unfolding updateAt
-    update-updated r =
-        let there = walk-there H (c .vertices) (n .halfedges) thirds lent (sound .in-order) v b H a (n .halfedges) a-live (λ g. refl) ∙ reached-yes r in
-        let all = walk-told H (c .vertices) (n .halfedges) thirds lent (sound .in-order) v a b (n .halfedges) a-live (λ g. refl) refl there .1 in
-        rw (comes-to, reached-yes r) (record {
-          ends = λ g w. ⊎-elim (λ t. t .1 .0) (λ t. absurd (t .0 w)) (all g);
-          starts = λ g w. ⊎-elim (λ t. t .1 .1) (λ t. absurd (t .0 w)) (all g);
-          other-ends = λ g m. ⊎-elim (λ t. absurd (m (t .0))) (λ t. t .1 .0) (all g);
-          other-starts = λ g m. ⊎-elim (λ t. absurd (m (t .0))) (λ t. t .1 .1) (all g);
-          other-columns = λ k s e g. other-walk H v b H (n .halfedges) a (a-live .in-use) k (not-start k s) (not-end k e) g;
-          behind = walk-below H v b H (n .halfedges) a (a-live .in-use) thirds;
-          same-length = length-walk H v b H (n .halfedges) a (a-live .in-use);
-        })
-
-  abbrev both : ℕ → ℕ → ℕ → Bool → Bool → Said × List ℤ
-  both v a b t u = cond t (cond u (done [], walk H v b H (n .halfedges) a .rows) (stopped, n .halfedges)) (dead, n .halfedges)
-
-  -- any refusal: no number is changed
-  pub update-refused : (updateVert c n vertex first last .0 ≡ done [] → ⊥) → updateVert c n vertex first last .1 ≡ n .halfedges
-  unfolding updateVert updateNamed updateAt
-  update-refused r =
-      by-test (eqb (checkNet c n .number) 0)
-      (λ t. rw t (go (names vertex (c .vertices)) (names first H) (names last H) (rw t at r)))
-      (λ t. rw t)
-    where
-      at-two : (v a b : ℕ) (t u : Bool) → (both v a b t u .0 ≡ done [] → ⊥) → both v a b t u .1 ≡ n .halfedges
-      at-two v a b true true m = absurd (m refl)
-      at-two v a b true false m = refl
-      at-two v a b false u m = refl
-
-      go : (x y z : Named) → (updateNamed H (n .halfedges) x y z .0 ≡ done [] → ⊥) → updateNamed H (n .halfedges) x y z .1 ≡ n .halfedges
-      go (at v) (at a) (at b) m = at-two v a b (is-paired (n .halfedges) a && is-paired (n .halfedges) b) (reaches H b (n .halfedges) H a) m
-      go (at v) (at a) nothing m = refl
-      go (at v) nothing z m = refl
-      go nothing y z m = refl
-
--- the answer, read back from what is said
-abbrev answer-of : Said → UpdateVert
-answer-of s =
-    cond (eqb (s .number) 0) U.Done
-    (cond (eqb (s .number) 1) U.Shape
-    (cond (eqb (s .number) 3) (U.Unsound (record { 0 = first-value s }))
-    (cond (eqb (s .number) 4) U.Number
-    (cond (eqb (s .number) 5) U.Dead U.Stopped))))
-
-answer-told : (a : UpdateVert) → answer-of (updateSaid a) ≡ a
-answer-told U.Done = refl
-answer-told U.Shape = refl
-answer-told (U.Unsound h) = refl
-answer-told U.Number = refl
-answer-told U.Dead = refl
-answer-told U.Stopped = refl
-
-pub update-agree : (c : Counts) (n : Net) (vertex first last : ℤ) (a b : UpdateVert) (l m : List ℤ) →
-    (updateSaid a, l) ≡ updateVert c n vertex first last → (updateSaid b, m) ≡ updateVert c n vertex first last → (a ≡ b) × (l ≡ m)
-update-agree c n vertex first last a b l m p q =
-    (read-back updateSaid answer-of answer-told a b (ap (λ (o : Said × List ℤ). o .0) (p ∙ sym q)), ap (λ (o : Said × List ℤ). o .1) (p ∙ sym q))

@@ -8,7 +8,7 @@ use lib.IntN.{ℤ, pos}
 use Rattle.numbers.specs.Numbers.{Named, names, named-or}
 use Rattle.numbers.specs.Next.{next}
 use Rattle.rows.specs.Halfedges.{start, end, pairOf, set-column}
-use Rattle.steps.specs.Steps.{Middle, middle, refused, Stopped, ended, with-rows}
+use Rattle.steps.specs.Steps.{Middle, refused, Stopped, ended, with-rows}
 
 -- where the walk goes from h: the partner of its next
 unfoldable pub onward : ℕ → List ℤ → ℕ → Named

@@ -1,6 +1,5 @@
 -- `folds::fold_step` meets its contract: each return is by the tests met so far.
 use mathlib.Core.Path.{refl, sym}
-use mathlib.Core.Bool.{_||_, not}
 use native.Mathlib.Omega.{arith}
 use Rattle.numbers.proofs.Names.{names-below}
 use Rattle.rows.specs.Halfedges.{pairOf}

@@ -1,5 +1,5 @@
 -- `folds::join_step` meets its contract: each return is by the tests met so far.
-use mathlib.Core.Path.{refl, sym, _∙_}
+use mathlib.Core.Path.{refl, sym}
 use native.Mathlib.Omega.{arith}
 use Rattle.numbers.proofs.Names.{names-below}
 use Rattle.rows.specs.Halfedges.{pairOf}

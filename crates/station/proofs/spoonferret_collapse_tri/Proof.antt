@@ -1,4 +1,4 @@
--- `station::spoonferret_collapse_tri` meets its contract: it tells what `triangles::collapse_tri` says, and the arrays are as that leaves them.
+-- `station::spoonferret_collapse_tri` meets its contract: it tells what `collapsetri::collapse_tri` says, and the arrays are as that leaves them.
 use mathlib.Core.Path.{ap}
 use mir.Facts.{toZ-ofZ}
 use Rattle.told.specs.Told.{row-told}

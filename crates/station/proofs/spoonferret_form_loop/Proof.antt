@@ -1,4 +1,4 @@
--- `station::spoonferret_form_loop` meets its contract: it tells what `loops::form_loop` says, and the arrays are as that leaves them.
+-- `station::spoonferret_form_loop` meets its contract: it tells what `formloop::form_loop` says, and the arrays are as that leaves them.
 use mathlib.Core.Path.{ap}
 use mir.Facts.{toZ-ofZ}
 use Rattle.station.specs.Left.{loop-left}

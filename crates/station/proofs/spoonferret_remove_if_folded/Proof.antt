@@ -1,4 +1,4 @@
--- `station::spoonferret_remove_if_folded` meets its contract: it tells what `folds::remove_if_folded` says, and the arrays are as that leaves them.
+-- `station::spoonferret_remove_if_folded` meets its contract: it tells what `removefolded::remove_if_folded` says, and the arrays are as that leaves them.
 use mathlib.Core.Path.{ap}
 use mir.Facts.{toZ-ofZ}
 use Rattle.told.specs.Told.{row-told}

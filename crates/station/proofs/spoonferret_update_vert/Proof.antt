@@ -1,4 +1,4 @@
--- `station::spoonferret_update_vert` meets its contract: it tells what `walks::update_vert` says, and the arrays are as that leaves them.
+-- `station::spoonferret_update_vert` meets its contract: it tells what `updatevert::update_vert` says, and the arrays are as that leaves them.
 use mathlib.Core.Path.{ap}
 use mir.Facts.{toZ-ofZ}
 use Rattle.told.specs.Told.{row-told}

@@ -1,4 +1,4 @@
--- `told::of_collapse` meets its contract: each case tells what `triangles::collapse_tri` says.
+-- `told::of_collapse` meets its contract: each case tells what `collapsetri::collapse_tri` says.
 use borrow.Author.Needs.{needs}
 use Rattle.told.proofs.of_collapse.Statement.{statement}
 use Rattle.told.proofs.of_collapse.Tie as tie

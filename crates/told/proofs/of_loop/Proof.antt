@@ -1,4 +1,4 @@
--- `told::of_loop` meets its contract: each case tells what `loops::form_loop` says.
+-- `told::of_loop` meets its contract: each case tells what `formloop::form_loop` says.
 use borrow.Author.Needs.{needs}
 use Rattle.told.proofs.of_loop.Statement.{statement}
 use Rattle.told.proofs.of_loop.Tie as tie

@@ -1,4 +1,4 @@
--- `told::of_remove` meets its contract: each case tells what `folds::remove_if_folded` says.
+-- `told::of_remove` meets its contract: each case tells what `removefolded::remove_if_folded` says.
 use borrow.Author.Needs.{needs}
 use Rattle.told.proofs.of_remove.Statement.{statement}
 use Rattle.told.proofs.of_remove.Tie as tie

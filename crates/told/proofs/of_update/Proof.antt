@@ -1,4 +1,4 @@
--- `told::of_update` meets its contract: each case tells what `walks::update_vert` says.
+-- `told::of_update` meets its contract: each case tells what `updatevert::update_vert` says.
 use borrow.Author.Needs.{needs}
 use Rattle.told.proofs.of_update.Statement.{statement}
 use Rattle.told.proofs.of_update.Tie as tie
