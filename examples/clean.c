@@ -29,7 +29,7 @@ static int read_net(FILE *file, size_t room, spoonferret_net *net) {
     }
     net->used.halfedges = 3 * triangles;
     net->used.vertices = vertices;
-    net->halfedges_length = 12 * (triangles + room);
+    net->halfedges_length = 3 * SPOONFERRET_HALFEDGE_NUMBERS * (triangles + room);
     net->positions_length = 3 * (vertices + room);
     net->halfedges = memory(net->halfedges_length, sizeof *net->halfedges);
     net->positions = memory(net->positions_length, sizeof *net->positions);
@@ -41,7 +41,7 @@ static int read_net(FILE *file, size_t room, spoonferret_net *net) {
         memcpy(net->positions + 3 * v, bits, sizeof bits);
     }
     for (size_t h = 0; h < 3 * triangles; h++) {
-        int32_t *row = net->halfedges + 4 * h;
+        int32_t *row = net->halfedges + SPOONFERRET_HALFEDGE_NUMBERS * h;
         if (fscanf(file, " h=%" SCNd32 ",%" SCNd32 ",%" SCNd32 ",%" SCNd32, &row[0], &row[1], &row[2], &row[3]) != 4) {
             return 0;
         }

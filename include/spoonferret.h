@@ -8,7 +8,7 @@
    capacity is the rows lent or the bound (below, with the counts), whichever is less; the triangle capacity is the least over
    half-edges (by thirds) and over those of normals and references that are in use.
 
-     halfedges    int32_t, 4 a row: start_vert, end_vert, paired_halfedge, prop_vert. Rows 3t, 3t+1 and 3t+2 are triangle t.
+     halfedges    int32_t, SPOONFERRET_HALFEDGE_NUMBERS (4) a row: start_vert, end_vert, paired_halfedge, prop_vert. Rows 3t, 3t+1 and 3t+2 are triangle t.
      positions    uint64_t, 3 a row: the bit patterns of x, y, z (an array of doubles will do, by a cast of the pointer).
      normals      uint64_t, 3 a row, as positions: none, or a row for each triangle.
      references   int32_t, 3 a row: mesh_id, coplanar_id, face_id: none, or a row for each triangle.
@@ -38,6 +38,9 @@
 #define SPOONFERRET_VERSION_MINOR 1
 #define SPOONFERRET_VERSION_PATCH 0
 #define SPOONFERRET_VERSION "0.1.0"
+
+/* The numbers of a half-edge row. */
+#define SPOONFERRET_HALFEDGE_NUMBERS 4
 
 #ifdef __cplusplus
 extern "C" {
@@ -276,7 +279,7 @@ spoonferret_row_answer spoonferret_remove_if_folded(spoonferret_used used, int32
    starts and ends; does update_vert with the first copy from first's partner to second's partner, and with the other from second to
    first; exchanges the two pairs; and does remove_if_folded at second. The same half-edge twice appends two positions and does
    remove_if_folded.
-   spare_halfedges needs 4 * used.halfedges elements, spare_positions 3 * used.vertices.
+   spare_halfedges needs SPOONFERRET_HALFEDGE_NUMBERS * used.halfedges elements, spare_positions 3 * used.vertices.
    0: done; vertices is used.vertices + 2, and over so many the net is sound. 1: shape. 2: a spare is too short. 3: not sound; row. 4: first or second is not in
    0..used.halfedges. 5: one of them is dead. 6: fewer than two vertex rows are free. 7: there is room, and the walk from
    first's partner to second's, or from second to first, does not come to its end.
@@ -327,7 +330,7 @@ spoonferret_split_answer spoonferret_split_pinched_verts(spoonferret_used used, 
    New rows go behind those in use of halfedges, positions, and normals and references where they are in use. Room is counted at the call: the half-edge
    capacity is three times the least of the triangles lent in halfedges, in normals and in references (those in use) and 1,000,000; the vertex
    capacity the rows lent of positions and at most 1,000,000.
-   spare_halfedges needs 4 * used.halfedges elements, spare_positions 3 * used.vertices.
+   spare_halfedges needs SPOONFERRET_HALFEDGE_NUMBERS * used.halfedges elements, spare_positions 3 * used.vertices.
    0: done; halfedges is used.halfedges or 6 more, vertices 1 or 2 more than used.vertices, and over so many the net is sound. 1: shape. 2: a spare is
    too short. 3: not sound; row. 4: halfedge is not in 0..used.halfedges. 5: it is dead. 6: a copy or a triangle finds no free row. 7: a step would read a
    row that is not there, or a walk does not end; a sound net never comes to it.
@@ -345,7 +348,7 @@ spoonferret_dedupe_edge_answer spoonferret_dedupe_edge(spoonferret_used used, in
 /* Takes the duplicate edges of a net apart, in rounds. Each lists the duplicates: fan by fan, each fan from its least half-edge on, those of
    which a smaller half-edge of the fan ends at the same vertex; and does dedupe_edge at each that is still duplicated when its turn comes. It ends with a
    round that lists none, or after used.halfedges rounds. On a net with pinched vertices a corner can move: do cleanup_topology there.
-   Room is counted as for dedupe_edge. spare_halfedges needs 4 * used.halfedges elements, spare_positions 3 * used.vertices; work and list need the half-edge
+   Room is counted as for dedupe_edge. spare_halfedges needs SPOONFERRET_HALFEDGE_NUMBERS * used.halfedges elements, spare_positions 3 * used.vertices; work and list need the half-edge
    capacity each.
    0: done; halfedges and vertices are in use then, and over so many the net is sound. 1: shape. 2: a spare, work or list is too short. 3: not
    sound; row. 6: a copy or a triangle finds no free row. 7: as of dedupe_edge: a sound net never comes to it.
@@ -363,7 +366,7 @@ spoonferret_dedupe_edges_answer spoonferret_dedupe_edges(spoonferret_used used, 
 
 /* Gives each fan a start vertex of its own, as split_pinched_verts does, and then takes the duplicate edges apart, as dedupe_edges does. An empty net is
    done.
-   Room is counted as for dedupe_edge. spare_halfedges needs 4 * used.halfedges elements, spare_positions 3 * used.vertices; work needs the half-edge
+   Room is counted as for dedupe_edge. spare_halfedges needs SPOONFERRET_HALFEDGE_NUMBERS * used.halfedges elements, spare_positions 3 * used.vertices; work needs the half-edge
    capacity and used.vertices more, list the half-edge capacity.
    0: done; halfedges and vertices are in use then, and over so many the net is sound. 1: shape. 2: a spare, work or list is too short. 3: not
    sound; row. 6: a copy or a triangle finds no free row. 7: as of dedupe_edge: a sound net never comes to it.
@@ -388,7 +391,7 @@ spoonferret_cleanup_topology_answer spoonferret_cleanup_topology(spoonferret_use
    remove_if_folded is done where the last loop left off.
    A net with no pinched vertex and no duplicate edge is sound afterwards in all runs; on others 0 may leave a net that is not sound. Do
    cleanup_topology before.
-   spare_halfedges needs 4 * used.halfedges elements, spare_positions 3 * used.vertices; list needs the half-edge capacity (as for dedupe_edge).
+   spare_halfedges needs SPOONFERRET_HALFEDGE_NUMBERS * used.halfedges elements, spare_positions 3 * used.vertices; list needs the half-edge capacity (as for dedupe_edge).
    0: done; vertices are in use then. 1: shape. 2: a spare or list is too short. 3: not sound; row. 4: halfedge is not in 0..used.halfedges. 5: it is dead.
    8: long (also with a NaN); squared_length and limit say why. 6: positions has no two free rows for a loop. 7: a walk does not end.
    After 6 and 7 the rows in use are as they were, and the vertex rows that had been filled read zero; the others are as they were. After 0, 6 and 7 the

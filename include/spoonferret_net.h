@@ -63,7 +63,7 @@ static inline size_t spoonferret_length(const void *at, size_t length) {
 /* How many triangles the arrays have room for, those in use among them: the least over half-edges (by thirds) and over those of normals and references that are
    in use, and at most 1,000,000. */
 static inline size_t spoonferret_net_triangle_capacity(const spoonferret_net *net) {
-    size_t most = spoonferret_length(net->halfedges, net->halfedges_length) / 12;
+    size_t most = spoonferret_length(net->halfedges, net->halfedges_length) / (3 * SPOONFERRET_HALFEDGE_NUMBERS);
     if (net->used.normals != 0 && spoonferret_length(net->normals, net->normals_length) / 3 < most) {
         most = spoonferret_length(net->normals, net->normals_length) / 3;
     }
@@ -80,7 +80,7 @@ static inline spoonferret_buffers spoonferret_net_needs(const spoonferret_net *n
     const size_t capacity = 3 * spoonferret_net_triangle_capacity(net);
     const size_t rows = capacity < net->used.halfedges ? net->used.halfedges : capacity;
     needed.spare_halfedges = NULL;
-    needed.spare_halfedges_length = 4 * net->used.halfedges;
+    needed.spare_halfedges_length = SPOONFERRET_HALFEDGE_NUMBERS * net->used.halfedges;
     needed.spare_positions = NULL;
     needed.spare_positions_length = 3 * net->used.vertices;
     needed.words = NULL;

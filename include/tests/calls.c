@@ -17,6 +17,9 @@ static void expect(int holds, const char *what) {
 
 #define EXPECT(holds) expect((holds), #holds)
 
+/* half-edge row h */
+#define ROW(rows, h) ((rows) + SPOONFERRET_HALFEDGE_NUMBERS * (h))
+
 /* two two-sided triangles that meet at vertex 0 */
 static const int32_t example[48] = {0, 1, 3,  -1, 1, 2, 5, -1, 2, 0, 4,  -1, 1, 0, 0, -1, 0, 2, 2, -1, 2, 1, 1, -1,
                                     0, 3, 9,  -1, 3, 4, 11, -1, 4, 0, 10, -1, 3, 0, 6, -1, 0, 4, 8, -1, 4, 3, 7, -1};
@@ -53,7 +56,7 @@ static const uint64_t no_numbers[1];
 static const int32_t no_rows[1];
 
 /* the counts, the five arrays; rows and positions are written by what follows */
-#define NET used, rows, 4 * lent_rows, positions, 3 * lent_positions, no_numbers, 0, no_rows, 0, no_numbers, 0
+#define NET used, rows, SPOONFERRET_HALFEDGE_NUMBERS * lent_rows, positions, 3 * lent_positions, no_numbers, 0, no_rows, 0, no_numbers, 0
 
 static void nets(void) {
     spoonferret_used used = {.halfedges = 12, .vertices = 5};
@@ -73,9 +76,9 @@ static void nets(void) {
     EXPECT(spoonferret_pair_up(NET, 0, 12).number == 4);
     EXPECT(memcmp(rows, example, sizeof rows) == 0);
     EXPECT(spoonferret_pair_up(NET, 0, 7).number == 0);
-    EXPECT(rows[2] == 7 && rows[30] == 0);
-    rows[2] = 3;
-    rows[30] = 11;
+    EXPECT(ROW(rows, 0)[2] == 7 && ROW(rows, 7)[2] == 0);
+    ROW(rows, 0)[2] = 3;
+    ROW(rows, 7)[2] = 11;
     EXPECT(memcmp(rows, example, sizeof rows) == 0);
 }
 
@@ -114,9 +117,9 @@ static void surgery(void) {
     EXPECT(spoonferret_update_vert(NET, 3, 0, 6).number == 5);
     EXPECT(memcmp(rows, before, sizeof rows) == 0);
     EXPECT(spoonferret_update_vert(NET, 3, 0, 5).number == 0);
-    EXPECT(rows[1] == 3 && rows[4] == 3);
-    rows[1] = 1;
-    rows[4] = 1;
+    EXPECT(ROW(rows, 0)[1] == 3 && ROW(rows, 1)[0] == 3);
+    ROW(rows, 0)[1] = 1;
+    ROW(rows, 1)[0] = 1;
     EXPECT(memcmp(rows, before, sizeof rows) == 0);
     used.halfedges = 8;
     EXPECT(spoonferret_update_vert(NET, 3, 0, 5).number == 1);
@@ -134,7 +137,7 @@ static void surgery(void) {
     EXPECT(spoonferret_collapse_tri(NET, 0).number == 0);
     static const int32_t emptied[12] = {-1, -1, -1, 8, -1, -1, -1, -1, -1, -1, -1, -1};
     EXPECT(memcmp(rows, emptied, sizeof emptied) == 0);
-    EXPECT(rows[4 * 5 + 2] == 4 && rows[4 * 4 + 2] == 5 && rows[4 * 3 + 2] == 0);
+    EXPECT(ROW(rows, 5)[2] == 4 && ROW(rows, 4)[2] == 5 && ROW(rows, 3)[2] == 0);
     EXPECT(memcmp(rows + 24, before + 24, 12 * sizeof *rows) == 0);
 
     /* P is folded at 0: all dead, props -1, three NaN positions; the rest as it was */
@@ -265,8 +268,8 @@ static void split(void) {
     EXPECT(told.number == 0 && told.row == 0 && told.added == 1 && told.steps == 12);
     static const uint32_t visited[12] = {4, 0, 3, 1, 5, 2, 10, 6, 9, 7, 11, 8};
     EXPECT(memcmp(visit, visited, sizeof visited) == 0 && visit[12] == 0x77777777);
-    EXPECT(rows[24] == 5 && rows[40] == 5 && rows[33] == 5 && rows[37] == 5);
-    rows[24] = rows[40] = rows[33] = rows[37] = 0;
+    EXPECT(ROW(rows, 6)[0] == 5 && ROW(rows, 10)[0] == 5 && ROW(rows, 8)[1] == 5 && ROW(rows, 9)[1] == 5);
+    ROW(rows, 6)[0] = ROW(rows, 10)[0] = ROW(rows, 8)[1] = ROW(rows, 9)[1] = 0;
     EXPECT(memcmp(rows, example, sizeof rows) == 0);
     EXPECT(memcmp(positions, points, sizeof points) == 0 && all(positions + 15, 3, 0) && positions[18] == UINT64_C(0x5555555555555555));
     rows[2] = 4;
@@ -292,8 +295,8 @@ typedef struct {
 } lent_net;
 
 #define ROOMY                                                                                                             \
-    n.used, n.rows, 4 * n.lent_rows, n.positions, 3 * n.lent_positions, n.normals, 3 * n.lent_faces, n.references,        \
-        3 * n.lent_faces, no_numbers, 0
+    n.used, n.rows, SPOONFERRET_HALFEDGE_NUMBERS * n.lent_rows, n.positions, 3 * n.lent_positions, n.normals, 3 * n.lent_faces, \
+        n.references, 3 * n.lent_faces, no_numbers, 0
 #define SPARES n.spare_rows, 74, n.spare_positions, 17
 
 static lent_net roomy(size_t triangles, size_t vertices) {
@@ -446,7 +449,7 @@ static void cleanup(void) {
     n.lent_positions = 6;
     told = spoonferret_cleanup_topology(ROOMY, SPARES, n.work, 30, n.list, 26);
     EXPECT(told.number == 0 && told.halfedges == 12 && told.vertices == 6);
-    EXPECT(n.rows[24] == 5 && n.rows[40] == 5 && n.rows[33] == 5 && n.rows[37] == 5);
+    EXPECT(ROW(n.rows, 6)[0] == 5 && ROW(n.rows, 10)[0] == 5 && ROW(n.rows, 8)[1] == 5 && ROW(n.rows, 9)[1] == 5);
     n.rows[2] = 4;
     told = spoonferret_cleanup_topology(ROOMY, SPARES, n.work, 30, n.list, 26);
     EXPECT(told.number == 3 && told.row == 0);
@@ -505,7 +508,7 @@ static void collapse(void) {
     told = spoonferret_collapse_edge(ROOMY, SPARES, n.list, 26, 0, 2, 9, 9);
     EXPECT(told.number == 0 && told.vertices == 7 && all(n.positions, 21, NAN_BITS));
     for (int h = 0; h < 18; h++) {
-        EXPECT(n.rows[4 * h] == -1 && n.rows[4 * h + 1] == -1 && n.rows[4 * h + 2] == -1);
+        EXPECT(ROW(n.rows, h)[0] == -1 && ROW(n.rows, h)[1] == -1 && ROW(n.rows, h)[2] == -1);
     }
 
     /* a walk that does not end: two rows had been filled */

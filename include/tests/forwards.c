@@ -327,7 +327,7 @@ static void needs(void) {
     spoonferret_net net = fresh();
     noted.name = "needs";
     net.used = (spoonferret_used){.halfedges = 6, .vertices = 4};
-    net.halfedges_length = 12 * 5 + 11;
+    net.halfedges_length = 3 * SPOONFERRET_HALFEDGE_NUMBERS * 5 + 11;
     net.normals_length = 3 * 4 + 2;
     net.references_length = 3 * 3 + 1;
     EXPECT(spoonferret_net_triangle_capacity(&net) == 5);
@@ -336,11 +336,11 @@ static void needs(void) {
     net.used.references = 2;
     EXPECT(spoonferret_net_triangle_capacity(&net) == 3);
     spoonferret_buffers needed = spoonferret_net_needs(&net);
-    EXPECT(needed.spare_halfedges_length == 24 && needed.spare_positions_length == 12 && needed.words_length == 13);
+    EXPECT(needed.spare_halfedges_length == SPOONFERRET_HALFEDGE_NUMBERS * 6 && needed.spare_positions_length == 12 && needed.words_length == 13);
     EXPECT(needed.list_length == 9 && needed.bytes_length == 6);
     EXPECT(!needed.spare_halfedges && !needed.spare_positions && !needed.words && !needed.list && !needed.bytes);
     net.used.normals = net.used.references = 0;
-    net.halfedges_length = 12 * (size_t)1000001;
+    net.halfedges_length = 3 * SPOONFERRET_HALFEDGE_NUMBERS * (size_t)1000001;
     EXPECT(spoonferret_net_triangle_capacity(&net) == 1000000);
     net.halfedges = NULL;
     EXPECT(spoonferret_net_triangle_capacity(&net) == 0 && spoonferret_net_needs(&net).list_length == 6);

@@ -166,7 +166,7 @@ static void buffers(void) {
 static void places(void) {
     spoonferret_net net = fresh(example, 5);
     spoonferret_buffers b = lent(&net);
-    halfedges[4 * 10 + 2] = 6;
+    halfedges[SPOONFERRET_HALFEDGE_NUMBERS * 10 + 2] = 6;
     spoonferret_explain_answer why = spoonferret_net_explain_row(&net, 8);
     EXPECT(why.number == 0 && why.clause == 2 && why.other == 10);
     EXPECT(spoonferret_net_explain_row(&net, 7).clause == 0 && spoonferret_net_explain_row(&net, 12).number == 4);

@@ -1,7 +1,7 @@
 //! Each entry: how it is called between guards, what is owed, and what it is asked. A new entry is a line of `ALL` and these functions.
 
 use crate::chance::Chance;
-use crate::lent::{signed, Asked, Guarded, GuardedNet, Lent, Said};
+use crate::lent::{signed, Asked, Guarded, GuardedNet, Lent, Said, ROW};
 use crate::reading::{self, bits_of, caught, Ran, Shortness};
 use original::impl_mesh::ManifoldImpl;
 use original::linalg::{dot, Vec3};
@@ -392,7 +392,7 @@ pub fn lend_enough(l: &mut Lent, chance: &mut Chance) {
     l.work_bytes = anything(rows).iter().map(|&b| b as u8).collect();
     l.work_words = anything(capacity + vertices).iter().map(|&b| b as u32).collect();
     l.list = anything(capacity).iter().map(|&b| b as u32).collect();
-    l.spare_halfedges = anything(4 * rows).iter().map(|&b| b as i32).collect();
+    l.spare_halfedges = anything(ROW * rows).iter().map(|&b| b as i32).collect();
     l.spare_positions = anything(3 * vertices);
 }
 
@@ -495,10 +495,9 @@ fn owners_ours(l: &mut Lent, a: &Asked) -> Result<Said, String> {
 
 fn owners_owed(l: &mut Lent, a: &Asked) -> Said {
     let rows: Vec<parallel::types::Halfedge> = l
-        .halfedges
-        .chunks_exact(4)
+        .rows()
         .take(l.used.halfedges)
-        .map(|r| parallel::types::Halfedge { start_vert: r[0], end_vert: r[1], paired_halfedge: r[2], prop_vert: r[3] })
+        .map(|&[start_vert, end_vert, paired_halfedge, prop_vert]| parallel::types::Halfedge { start_vert, end_vert, paired_halfedge, prop_vert })
         .collect();
     let said = reading::orbit_owners(l, a.choice);
     let owned = |said: &Said| match said.number {
@@ -520,7 +519,7 @@ fn on_the_way(l: &Lent, start: i32, moves: usize) -> i32 {
     let mut at = start;
     for _ in 0..moves {
         let next = at as usize / 3 * 3 + (at as usize + 1) % 3;
-        match l.halfedges.get(4 * next + 2) {
+        match l.halfedges.get(ROW * next + 2) {
             Some(&p) if p >= 0 => at = p,
             _ => break,
         }
@@ -607,10 +606,10 @@ fn fold_owed(l: &mut Lent, a: &Asked) -> Said {
 
 /// A row that starts and ends where h does, h itself among them.
 fn alongside(l: &Lent, h: i32, chance: &mut Chance) -> i32 {
-    let Some(row) = l.halfedges.get(4 * h as usize..4 * h as usize + 2) else {
+    let Some(row) = l.halfedges.get(ROW * h as usize..ROW * h as usize + 2) else {
         return h;
     };
-    let all: Vec<usize> = (0..l.used.halfedges.min(l.halfedges.len() / 4)).filter(|&g| &l.halfedges[4 * g..4 * g + 2] == row).collect();
+    let all: Vec<usize> = (0..l.used.halfedges.min(l.rows_lent())).filter(|&g| &l.row(g)[..2] == row).collect();
     all.get(inside(all.len(), chance) as usize).map_or(h, |&g| g as i32)
 }
 
@@ -632,7 +631,7 @@ fn loop_asks(l: &Lent, chance: &mut Chance) -> Vec<Asked> {
 }
 
 fn loop_lends(l: &mut Lent, chance: &mut Chance) {
-    l.spare_halfedges = lent_about(l.used.halfedges.saturating_mul(4), chance, |b| b as i32);
+    l.spare_halfedges = lent_about(l.used.halfedges.saturating_mul(ROW), chance, |b| b as i32);
     l.spare_positions = lent_about(l.used.vertices.saturating_mul(3), chance, |b| b);
 }
 
@@ -701,7 +700,7 @@ fn dedupe_owed(l: &mut Lent, a: &Asked) -> Said {
 
 /// Spares, a work buffer and a list that need so much, mostly enough; one of them short now and then.
 fn lent_together(l: &mut Lent, work: usize, list: usize, chance: &mut Chance) {
-    let sizes = [l.used.halfedges.saturating_mul(4), l.used.vertices.saturating_mul(3), work, list];
+    let sizes = [l.used.halfedges.saturating_mul(ROW), l.used.vertices.saturating_mul(3), work, list];
     let one_short = chance.once_in(3).then(|| chance.below(4));
     let mut filled = |k: usize| -> Vec<u64> {
         if one_short == Some(k) {
@@ -767,7 +766,7 @@ fn cleanup_owed(l: &mut Lent, _: &Asked) -> Said {
 
 /// The half-edge with numbers that make its edge surely short, short or long, or long by a NaN.
 fn edge_asked(l: &Lent, h: i32, surely: bool, chance: &mut Chance) -> Asked {
-    let row = l.halfedges.get(4 * (h.max(0) as usize)..).and_then(|r| r.get(..2)).unwrap_or(&[0, 0]);
+    let row = l.halfedges.get(ROW * (h.max(0) as usize)..).and_then(|r| r.get(..2)).unwrap_or(&[0, 0]);
     let end = row[1];
     let (mut first, mut floats) = (*chance.pick(&[i32::MAX, end.saturating_add(1), end, 0]), [1e9, 1e9]);
     if !surely {

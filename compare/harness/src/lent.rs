@@ -1,6 +1,13 @@
 //! Everything that a call is lent, what it is asked and what it says; and the guarded stretches between which each array stands.
 
 use spoonferret::raw::Used;
+use spoonferret::Halfedge;
+
+/// The numbers of a half-edge row: start, end, pair and prop.
+pub const ROW: usize = Halfedge::NUMBERS;
+
+/// A half-edge row.
+pub type Row = [i32; ROW];
 
 /// The five arrays, the counts, and whatever buffers an entry takes.
 #[derive(Clone, Debug)]
@@ -43,6 +50,29 @@ pub fn counts(u: &Used) -> [usize; 6] {
 }
 
 impl Lent {
+    /// Half-edge row h.
+    pub fn row(&self, h: usize) -> &Row {
+        self.halfedges[ROW * h..][..ROW].try_into().expect("a row")
+    }
+
+    pub fn row_mut(&mut self, h: usize) -> &mut Row {
+        (&mut self.halfedges[ROW * h..][..ROW]).try_into().expect("a row")
+    }
+
+    /// Lends a half-edge row more.
+    pub fn push(&mut self, row: Row) {
+        self.halfedges.extend(row);
+    }
+
+    /// The half-edge rows that are lent, in use or free.
+    pub fn rows(&self) -> impl Iterator<Item = &Row> {
+        self.halfedges.chunks_exact(ROW).map(|row| row.try_into().expect("a row"))
+    }
+
+    pub fn rows_lent(&self) -> usize {
+        self.halfedges.len() / ROW
+    }
+
     /// Where two differ, if they do: bit for bit, everything.
     pub fn differs(&self, other: &Lent) -> Option<String> {
         fn first<T: PartialEq + std::fmt::Debug>(name: &str, a: &[T], b: &[T]) -> Option<String> {

@@ -13,7 +13,7 @@ mod replay;
 
 use chance::Chance;
 use entries::{Entry, ALL};
-use lent::{Asked, Lent};
+use lent::{Asked, Lent, Row, ROW};
 use std::io::Write;
 use std::time::Instant;
 
@@ -281,10 +281,10 @@ fn compare(times: usize, only: Option<usize>, chance: &mut Chance) {
             table.on_with(&net, 3, chance);
             for _ in 0..3 {
                 let (i, k) = (chance.below(net.used.halfedges), chance.below(3));
-                let was = net.halfedges[4 * i + k];
-                net.halfedges[4 * i + k] = *chance.pick(&[-1, was + 1, was - 1, i32::MAX]);
+                let was = net.row(i)[k];
+                net.row_mut(i)[k] = *chance.pick(&[-1, was + 1, was - 1, i32::MAX]);
                 table.on_with(&net, 1, chance);
-                net.halfedges[4 * i + k] = was;
+                net.row_mut(i)[k] = was;
             }
         }
     }
@@ -347,7 +347,7 @@ fn bounds(table: &mut Table, every: bool, chance: &mut Chance) {
         let starts = [0, 1, 2, 1, 0, 2, 1, 0, 3, 0, 1, 3];
         let pairs = [6, 5, 4, 9, 2, 1, 0, 11, 10, 3, 8, 7];
         let mut net = nets::net_of(&starts, &pairs, 4);
-        net.halfedges.resize(4 * 3_000_003, -1);
+        net.halfedges.resize(ROW * 3_000_003, -1);
         net.used.halfedges = 3 * triangles;
         net.positions.resize(3 * 8, 5);
         for name in ["dedupe_edges", "cleanup_topology"] {
@@ -368,7 +368,8 @@ fn bounds(table: &mut Table, every: bool, chance: &mut Chance) {
         }
     }
     let mut net = Lent::default();
-    net.halfedges = [-1, -1, -1, 7].repeat(3_000_003);
+    let dead: Row = [-1, -1, -1, 7];
+    net.halfedges = dead.repeat(3_000_003);
     net.positions = vec![0x3FF0_0000_0000_0000; 3_000_003];
     net.properties = vec![1; 3_000_001];
     for halfedges in [2_999_997, 3_000_000, 3_000_001, 3_000_003] {

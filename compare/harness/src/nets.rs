@@ -1,7 +1,7 @@
 //! Nets to call on: all small sound ones, random sound ones, large ones, damaged ones, and counts at and beside their limits.
 
 use crate::chance::Chance;
-use crate::lent::Lent;
+use crate::lent::{Lent, ROW};
 use std::collections::HashMap;
 
 fn next(h: usize) -> usize {
@@ -12,7 +12,7 @@ fn next(h: usize) -> usize {
 pub fn net_of(starts: &[usize], pairs: &[usize], vertices: usize) -> Lent {
     let mut l = Lent::default();
     for (h, &start) in starts.iter().enumerate() {
-        l.halfedges.extend([start as i32, starts[next(h)] as i32, pairs[h] as i32, -1]);
+        l.push([start as i32, starts[next(h)] as i32, pairs[h] as i32, -1]);
     }
     l.positions = (0..3 * vertices).map(|i| (i as f64 / 4.0).to_bits()).collect();
     l.used.halfedges = starts.len();
@@ -198,11 +198,11 @@ pub fn with_dead(l: &Lent, chance: &mut Chance) -> Lent {
         for k in 0..3 {
             let prop = chance.below(9) as i32 - 1;
             match from {
-                None => out.halfedges.extend([-1, -1, -1, prop]),
+                None => out.push([-1, -1, -1, prop]),
                 Some(t) => {
-                    let r = &l.halfedges[4 * (3 * t + k)..][..4];
+                    let r = l.row(3 * t + k);
                     let p = r[2] as usize;
-                    out.halfedges.extend([r[0], r[1], (3 * to[p / 3] + p % 3) as i32, prop]);
+                    out.push([r[0], r[1], (3 * to[p / 3] + p % 3) as i32, prop]);
                 }
             }
         }
@@ -237,7 +237,7 @@ pub fn dress(l: &mut Lent, chance: &mut Chance) {
 /// So many free triangles and vertices, holding anything; a part of a row besides.
 pub fn add_room(l: &mut Lent, triangles: usize, vertices: usize, chance: &mut Chance) {
     let mut anything = |n: usize| -> Vec<u64> { (0..n).map(|_| chance.bits() | 1).collect() };
-    l.halfedges.extend(anything(12 * triangles + 3).iter().map(|&b| b as i32));
+    l.halfedges.extend(anything(3 * ROW * triangles + 3).iter().map(|&b| b as i32));
     l.positions.extend(anything(3 * vertices + 2));
     if l.used.references != 0 {
         l.references.extend(anything(3 * triangles + 1).iter().map(|&b| b as i32));
@@ -254,8 +254,8 @@ pub fn together(nets: &[Lent], count: usize, chance: &mut Chance) -> Lent {
     for _ in 0..count {
         let net = chance.pick(nets);
         let (rows, vertices) = (l.used.halfedges as i32, l.used.vertices as i32);
-        for r in net.halfedges.chunks_exact(4).take(net.used.halfedges) {
-            l.halfedges.extend([r[0] + vertices, r[1] + vertices, r[2] + rows, r[3]]);
+        for r in net.rows().take(net.used.halfedges) {
+            l.push([r[0] + vertices, r[1] + vertices, r[2] + rows, r[3]]);
         }
         l.positions.extend(&net.positions[..3 * net.used.vertices]);
         l.used.halfedges += net.used.halfedges;
@@ -297,7 +297,7 @@ pub fn every_room(l: &Lent, triangles: usize, vertices: usize, chance: &mut Chan
 /// The rows in use alone.
 pub fn bare(l: &Lent) -> Lent {
     let mut l = l.clone();
-    l.halfedges.truncate(4 * l.used.halfedges);
+    l.halfedges.truncate(ROW * l.used.halfedges);
     l.positions.truncate(3 * l.used.vertices);
     l.normals.truncate(3 * l.used.normals);
     l.references.truncate(3 * l.used.references);
@@ -329,7 +329,7 @@ pub fn built(mut triangles: Vec<[usize; 3]>, in_order: bool, chance: &mut Chance
 pub fn damaged(l: &Lent, chance: &mut Chance, each: &mut impl FnMut(&Lent, &mut Chance)) {
     let (rows, vertices) = (l.used.halfedges as i32, l.used.vertices as i32);
     let mut l = l.clone();
-    for i in 0..4 * l.used.halfedges {
+    for i in 0..ROW * l.used.halfedges {
         let was = l.halfedges[i];
         let wrong = [-1, -2, 0, was.wrapping_add(1), was.wrapping_sub(1), rows, rows - 1, vertices, vertices - 1, i32::MIN, i32::MAX, chance.below(rows as usize) as i32];
         for w in wrong {
@@ -347,12 +347,12 @@ pub fn opened(l: &Lent, chance: &mut Chance) -> Lent {
     let rows = l.used.halfedges;
     for _ in 0..chance.below(4) {
         let h = chance.below(rows);
-        let p = l.halfedges[4 * h + 2];
+        let p = l.row(h)[2];
         if p >= 0 {
             let negative = *chance.pick(&[-1, -2, i32::MIN]);
             let open = chance.once_in(2);
             for g in [h, p as usize] {
-                l.halfedges[4 * g + 2] = if open { negative } else { g as i32 };
+                l.row_mut(g)[2] = if open { negative } else { g as i32 };
             }
         }
     }
@@ -361,7 +361,7 @@ pub fn opened(l: &Lent, chance: &mut Chance) -> Lent {
     for h in 0..rows {
         for k in 0..2 {
             if chance.below(8) < below {
-                l.halfedges[4 * h + k] = *chance.pick(&[-1, -2, i32::MIN]);
+                l.row_mut(h)[k] = *chance.pick(&[-1, -2, i32::MIN]);
             }
         }
     }
@@ -372,7 +372,7 @@ pub fn opened(l: &Lent, chance: &mut Chance) -> Lent {
 pub fn counts_beside(l: &Lent, chance: &mut Chance, each: &mut impl FnMut(&Lent, &mut Chance)) {
     let around = |n: usize| [n.wrapping_sub(3), n.wrapping_sub(1), n, n + 1, n + 2, n + 3];
     let far = [0, 1, 2, 3, 33, 1 << 31, 1 << 32, 1 << 62, 1 << 63, (1 << 63) - 1, usize::MAX, usize::MAX / 3, usize::MAX / 3 + 1, usize::MAX / 4 * 3, usize::MAX - 2];
-    let lent = [l.halfedges.len() / 4, l.positions.len() / 3, l.normals.len() / 3, l.references.len() / 3, l.properties.len(), 32];
+    let lent = [l.rows_lent(), l.positions.len() / 3, l.normals.len() / 3, l.references.len() / 3, l.properties.len(), 32];
     let mut l = l.clone();
     for k in 0..6 {
         let was = *count_mut(&mut l, k);

@@ -1,7 +1,7 @@
 //! A second reading of document 01, written for this comparison and from its text alone: what is owed where the Rust has no
 //! answer. And the way to the original Rust, with panics and endless walks caught.
 
-use crate::lent::{Lent, Said};
+use crate::lent::{Lent, Said, ROW};
 use original::impl_mesh::ManifoldImpl;
 use original::linalg::Vec3;
 use original::types::{Halfedge, TriRef};
@@ -15,7 +15,7 @@ const MOST_PROPERTY_ROWS: usize = 3_000_000;
 /// "A capacity is the lent rows or the bound, whichever is less; triangle capacity is the least over half-edges (by thirds) and
 /// non-empty references and normals."
 pub fn triangle_capacity(l: &Lent) -> usize {
-    let mut most = (l.halfedges.len() / 4 / 3).min(MOST_TRIANGLES);
+    let mut most = (l.rows_lent() / 3).min(MOST_TRIANGLES);
     if l.used.references != 0 {
         most = most.min(l.references.len() / 3);
     }
@@ -56,7 +56,8 @@ struct Row {
 }
 
 fn row(l: &Lent, h: usize) -> Row {
-    Row { start: l.halfedges[4 * h], end: l.halfedges[4 * h + 1], pair: l.halfedges[4 * h + 2] }
+    let &[start, end, pair, _] = l.row(h);
+    Row { start, end, pair }
 }
 
 /// Row h is in order, "in one of two ways".
@@ -114,10 +115,9 @@ pub fn mesh_of(l: &Lent) -> ManifoldImpl {
         vert_pos: l.positions.chunks_exact(3).take(u.vertices).map(vector).collect(),
         face_normal: l.normals.chunks_exact(3).take(u.normals).map(vector).collect(),
         halfedge: l
-            .halfedges
-            .chunks_exact(4)
+            .rows()
             .take(u.halfedges)
-            .map(|r| Halfedge { start_vert: r[0], end_vert: r[1], paired_halfedge: r[2], prop_vert: r[3] })
+            .map(|&[start_vert, end_vert, paired_halfedge, prop_vert]| Halfedge { start_vert, end_vert, paired_halfedge, prop_vert })
             .collect(),
         properties: l.properties.iter().take(u.properties * u.num_prop).map(|&b| f64::from_bits(b)).collect(),
         ..ManifoldImpl::default()
@@ -134,7 +134,7 @@ pub fn mesh_of(l: &Lent) -> ManifoldImpl {
 /// What the Rust's mesh holds, written back into the lent rows, with the counts; it fits (see `run`).
 pub fn leave(mesh: &ManifoldImpl, l: &mut Lent) {
     let bits = |v: &Vec3| [v.x.to_bits(), v.y.to_bits(), v.z.to_bits()];
-    for (row, h) in l.halfedges.chunks_exact_mut(4).zip(&mesh.halfedge) {
+    for (row, h) in l.halfedges.chunks_exact_mut(ROW).zip(&mesh.halfedge) {
         row.copy_from_slice(&[h.start_vert, h.end_vert, h.paired_halfedge, h.prop_vert]);
     }
     for (row, v) in l.positions.chunks_exact_mut(3).zip(&mesh.vert_pos) {
@@ -320,8 +320,8 @@ fn updated(l: &mut Lent, vertex: i32, start: usize, end: usize) -> bool {
         return false;
     };
     for h in way {
-        l.halfedges[4 * h + 1] = vertex;
-        l.halfedges[4 * next(h)] = vertex;
+        l.row_mut(h)[1] = vertex;
+        l.row_mut(next(h))[0] = vertex;
     }
     true
 }
@@ -336,8 +336,8 @@ pub fn update_vert(l: &mut Lent, vertex: i32, start: i32, end: i32) -> Said {
 }
 
 fn paired(l: &mut Lent, a: usize, b: usize) {
-    l.halfedges[4 * a + 2] = b as i32;
-    l.halfedges[4 * b + 2] = a as i32;
+    l.row_mut(a)[2] = b as i32;
+    l.row_mut(b)[2] = a as i32;
 }
 
 /// Module 6, the entry: "pairs the partners of its second and third rows, then empties three rows and keeps prop_vert".
@@ -354,7 +354,7 @@ fn emptied(l: &mut Lent, halfedge: usize) {
     let partners = three.map(|h| row(l, h).pair as usize);
     paired(l, partners[1], partners[2]);
     for h in three {
-        l.halfedges[4 * h..4 * h + 3].fill(-1);
+        l.row_mut(h)[..3].fill(-1);
     }
 }
 
@@ -373,14 +373,14 @@ fn unfolded(l: &mut Lent, e: usize) {
     };
     let outer = [(pair(one[1]), pair(other[2])), (pair(one[2]), pair(other[1]))];
     for &h in lost {
-        let v = l.halfedges[4 * h] as usize;
+        let v = row(l, h).start as usize;
         l.positions[3 * v..3 * v + 3].fill(0x7FF8_0000_0000_0000);
     }
     for (a, b) in outer {
         paired(l, a, b);
     }
     for h in one.into_iter().chain(other) {
-        l.halfedges[4 * h..4 * h + 4].fill(-1);
+        l.row_mut(h).fill(-1);
     }
 }
 
@@ -395,12 +395,12 @@ pub fn remove_if_folded(l: &mut Lent, halfedge: i32) -> Said {
 
 /// "A spare of the size of the half-edge and position rows in use" is there.
 fn spare_fits(l: &Lent) -> bool {
-    l.spare_halfedges.len() / 4 >= l.used.halfedges && l.spare_positions.len() / 3 >= l.used.vertices
+    l.spare_halfedges.len() / ROW >= l.used.halfedges && l.spare_positions.len() / 3 >= l.used.vertices
 }
 
 /// "Past the checks it holds the rows as at entry."
 fn spare_taken(l: &mut Lent) {
-    let (rows, positions) = (4 * l.used.halfedges, 3 * l.used.vertices);
+    let (rows, positions) = (ROW * l.used.halfedges, 3 * l.used.vertices);
     l.spare_halfedges[..rows].copy_from_slice(&l.halfedges[..rows]);
     l.spare_positions[..positions].copy_from_slice(&l.positions[..positions]);
 }
@@ -509,8 +509,8 @@ fn fan_copied(l: &mut Lent, v: i32, h: usize) -> Result<(), Halt> {
     let new = appended_vertex(l, v)?;
     for c in fan(l, h)? {
         let p = partner(l, c).ok_or(Halt::Stopped)?;
-        l.halfedges[4 * c] = new;
-        l.halfedges[4 * p + 1] = new;
+        l.row_mut(c)[0] = new;
+        l.row_mut(p)[1] = new;
     }
     Ok(())
 }
@@ -522,10 +522,10 @@ fn triangle_beside(l: &mut Lent, capacity: usize, a: i32, b: i32, h: usize, e: u
     if k + 3 > capacity {
         return Err(Halt::NoRoom);
     }
-    let (outside, prop_e, prop_h) = (row(l, h).start, l.halfedges[4 * e + 3], l.halfedges[4 * h + 3]);
+    let (outside, prop_e, prop_h) = (row(l, h).start, l.row(e)[3], l.row(h)[3]);
     let p = partner(l, h).ok_or(Halt::Stopped)?;
     let rows = [[a, b, -1, prop_e], [b, outside, -1, prop_e], [outside, a, -1, prop_h]];
-    l.halfedges[4 * k..4 * k + 12].copy_from_slice(rows.as_flattened());
+    l.halfedges[ROW * k..][..3 * ROW].copy_from_slice(rows.as_flattened());
     l.used.halfedges += 3;
     paired(l, k + 2, p);
     paired(l, k + 1, h);
@@ -740,9 +740,9 @@ fn collapsed(l: &mut Lent, e: usize) -> Result<(), Halt> {
         if l.used.num_prop > 0 && l.used.references > 0 {
             let mine = face(l, c / 3);
             if mine == face(l, e / 3) {
-                l.halfedges[4 * c + 3] = l.halfedges[4 * e1 + 3];
+                l.row_mut(c)[3] = l.row(e1)[3];
             } else if mine == face(l, p / 3) {
-                l.halfedges[4 * c + 3] = l.halfedges[4 * p + 3];
+                l.row_mut(c)[3] = l.row(p)[3];
             }
         }
         let Some(on) = partner(l, c) else { break };

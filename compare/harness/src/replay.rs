@@ -2,7 +2,7 @@
 
 use crate::chance::Chance;
 use crate::entries::{Field, ALL};
-use crate::lent::{counts, Asked, Lent};
+use crate::lent::{counts, Asked, Lent, Row, ROW};
 use crate::nets;
 use crate::reading;
 use std::collections::{BTreeMap, BTreeSet};
@@ -78,7 +78,7 @@ fn kind(which: usize, net: &Lent, left: &Lent, asked: &Asked, number: u32) -> Ki
     }
     let (vertices, rows) = match number {
         0 => (left.used.vertices - net.used.vertices, left.used.halfedges - net.used.halfedges),
-        6 | 7 => (emptied(&net.positions, &left.positions, 3), emptied(&net.halfedges, &left.halfedges, 4)),
+        6 | 7 => (emptied(&net.positions, &left.positions, 3), emptied(&net.halfedges, &left.halfedges, ROW)),
         _ => (0, 0),
     };
     let room = number == 6 && net.used.vertices + vertices < reading::vertex_capacity(net);
@@ -88,7 +88,7 @@ fn kind(which: usize, net: &Lent, left: &Lent, asked: &Asked, number: u32) -> Ki
 /// What else is told apart: the least number of all; at how many vertices a split appends, and how many; rows with a start and an end below 0, by the choice;
 /// loops formed of two half-edges where nothing folds, by where they stand.
 fn apart(which: usize, net: &Lent, left: &Lent, asked: &Asked, number: u32) -> (usize, usize) {
-    let rows = |l: &Lent| -> Vec<[i32; 4]> { l.halfedges.chunks_exact(4).take(net.used.halfedges).map(|r| [r[0], r[1], r[2], r[3]]).collect() };
+    let rows = |l: &Lent| -> Vec<Row> { l.rows().take(net.used.halfedges).copied().collect() };
     match (ALL[which].name, number) {
         ("next_halfedge" | "tri_of", _) => ((asked.numbers[0] == i32::MIN) as usize, 0),
         ("split_pinched_verts", 0) => {
@@ -156,7 +156,7 @@ fn row<T: std::fmt::Display>(name: &str, values: &[T], out: &mut String) {
 fn shorten(net: &mut Lent, chance: &mut Chance) {
     let used = net.used;
     let free = |array: usize, rows: usize, width: usize| rows.saturating_mul(width).min(array);
-    let halfedges = free(net.halfedges.len(), used.halfedges, 4);
+    let halfedges = free(net.halfedges.len(), used.halfedges, ROW);
     let references = free(net.references.len(), used.references, 3);
     for n in net.halfedges[halfedges..].iter_mut().chain(&mut net.references[references..]).chain(&mut net.spare_halfedges) {
         if !chance.once_in(16) {

@@ -143,7 +143,7 @@ macro_rules! layout {
 
         const _: () = {
             use ::core::mem::{align_of, offset_of, size_of};
-            assert!(size_of::<$halfedge>() == 16, "spoonferret: a half-edge must be its four i32 and nothing besides: 16 bytes");
+            assert!(size_of::<$halfedge>() == $crate::Halfedge::NUMBERS * size_of::<i32>(), "spoonferret: a half-edge must be its four i32 and nothing besides: 16 bytes");
             assert!(align_of::<$halfedge>() == 4, "spoonferret: a half-edge must be aligned as an i32");
             assert!(offset_of!($halfedge, $start) == 0, "spoonferret: the start of a half-edge must be its first field in memory: give it #[repr(C)]");
             assert!(offset_of!($halfedge, $end) == 4, "spoonferret: the end of a half-edge must be its second field in memory: give it #[repr(C)]");

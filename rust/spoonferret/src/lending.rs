@@ -3,7 +3,7 @@
 
 use crate::raw::Used;
 use crate::refusal::Carried;
-use crate::{Clause, HalfedgeRow, Layout, Refusal};
+use crate::{Clause, Halfedge, HalfedgeRow, Layout, Refusal};
 use std::marker::PhantomData;
 use std::mem::MaybeUninit;
 use std::ptr::NonNull;
@@ -72,8 +72,8 @@ impl Arrays<'_> {
     /// Where half-edge `h` starts: `h` is in use, and its start is a vertex.
     pub fn start(&self, h: usize) -> usize {
         assert!(h < self.used.halfedges);
-        // SAFETY: four elements a row in use are good for reading
-        unsafe { *self.halfedges.add(4 * h) as usize }
+        // SAFETY: the elements of a row in use are good for reading
+        unsafe { *self.halfedges.add(Halfedge::NUMBERS * h) as usize }
     }
 }
 
@@ -112,7 +112,7 @@ impl<'n, L: Layout> Shared<'n, L> {
         Ok(Arrays {
             used: self.used()?,
             halfedges: self.halfedges.as_ptr().cast_mut().cast(),
-            halfedges_length: 4 * self.halfedges.len(),
+            halfedges_length: Halfedge::NUMBERS * self.halfedges.len(),
             positions: self.positions.as_ptr().cast_mut().cast(),
             positions_length: 3 * self.positions.len(),
             normals: self.normals.as_ptr().cast_mut().cast(),
@@ -131,7 +131,7 @@ pub(crate) fn halfedges_alone<L, H: HalfedgeRow<L>>(rows: &mut [H]) -> Arrays<'_
     Arrays {
         used: Used { halfedges: rows.len(), vertices: 0, normals: 0, references: 0, properties: 0, num_prop: 0 },
         halfedges: rows.as_mut_ptr().cast(),
-        halfedges_length: 4 * rows.len(),
+        halfedges_length: Halfedge::NUMBERS * rows.len(),
         positions: none(),
         positions_length: 0,
         normals: none(),

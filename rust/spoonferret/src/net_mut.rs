@@ -3,7 +3,7 @@
 use crate::lending::{self, Arrays, InUse, Room, Shared, MOST_TRIANGLES, MOST_VERTICES};
 use crate::raw::Used;
 use crate::refusal::Carried;
-use crate::{Clause, Eligible, Layout, Refusal, Workspace};
+use crate::{Clause, Eligible, Halfedge, Layout, Refusal, Workspace};
 use std::marker::PhantomData;
 
 /// A half-edge net over vectors that the caller keeps: every row that they hold is in use. Half-edges 3t, 3t+1 and 3t+2 are triangle t; normals and references
@@ -112,7 +112,7 @@ macro_rules! on_the_whole {
         $work.spares($used.halfedges, $used.vertices);
         let first = $net.spare(Room { triangles: $used.halfedges / 48 + 64, vertices: $used.vertices / 16 + 64 });
         $net.growing($work, first, Room::ALL, true, |arrays, work| {
-            let capacity = arrays.halfedges_length / 4;
+            let capacity = arrays.halfedges_length / Halfedge::NUMBERS;
             work.words(capacity + $words);
             work.list(capacity);
             let told = spares!($entry, arrays, work, work.words.as_mut_ptr(), work.words.len(), work.list.as_mut_ptr(), work.list.len());
@@ -146,7 +146,7 @@ impl<L: Layout> NetMut<'_, L> {
         Ok(Arrays {
             used,
             halfedges: halfedges.cast(),
-            halfedges_length: 4 * halfedge_rows,
+            halfedges_length: Halfedge::NUMBERS * halfedge_rows,
             positions: positions.cast(),
             positions_length: 3 * position_rows,
             normals: normals.cast(),

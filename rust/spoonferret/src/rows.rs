@@ -22,6 +22,9 @@ pub struct Halfedge {
 }
 
 impl Halfedge {
+    /// The numbers in a row.
+    pub const NUMBERS: usize = std::mem::size_of::<Halfedge>() / std::mem::size_of::<i32>();
+
     /// A row of these fields.
     pub fn new(start_vert: i32, end_vert: i32, paired_halfedge: i32, prop_vert: i32) -> Self {
         Halfedge { start_vert, end_vert, paired_halfedge, prop_vert }

@@ -1,6 +1,7 @@
 //! Buffers that are kept from call to call.
 
 use crate::lending::Arrays;
+use crate::Halfedge;
 use std::cell::Cell;
 
 /// The work buffers, lists and spares that operations borrow. They grow when a call needs more, and stay: a second call on a net of the same size allocates
@@ -44,7 +45,7 @@ impl Workspace {
     }
 
     pub(crate) fn spares(&mut self, halfedges: usize, vertices: usize) {
-        grow(&mut self.spare_halfedges, 4 * halfedges);
+        grow(&mut self.spare_halfedges, Halfedge::NUMBERS * halfedges);
         grow(&mut self.spare_positions, 3 * vertices);
     }
 

@@ -125,7 +125,7 @@ fn owned(mesh: &Mesh) -> Net {
 }
 
 /// Everything, with the bits of floats.
-fn bits(net: &Net) -> (Vec<[i32; 4]>, Vec<[u64; 3]>, Vec<[u64; 3]>, Vec<[i32; 3]>) {
+fn bits(net: &Net) -> (Vec<[i32; spoonferret::Halfedge::NUMBERS]>, Vec<[u64; 3]>, Vec<[u64; 3]>, Vec<[i32; 3]>) {
     let vectors = |all: &[spoonferret::Vec3]| all.iter().map(|v| [v.x, v.y, v.z].map(f64::to_bits)).collect();
     (
         net.halfedges.iter().map(|h| [h.start_vert, h.end_vert, h.paired_halfedge, h.prop_vert]).collect(),
