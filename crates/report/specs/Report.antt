@@ -2,11 +2,11 @@
 -- line. Numbers are written as in a mesh file.
 use mathlib.Core.Bool.{Bool, cond, _&&_}
 use mathlib.Core.List.{List, [], _∷_, _++_}
-use mathlib.Core.Path.{_≡_}
 use Prim.Native.Nat.{ℕ, zero, suc, _+_, _*_, _/_, _≤_}
 use lib.IntN.{ℤ, pos, _-ℤ_}
-use lib.ListN.{length, take, drop}
-use Rattle.digits.specs.Written.{newline, comma, decimal, signed}
+use lib.ListN.{length, take}
+use Rattle.digits.specs.Written.{comma, decimal, signed}
+use Rattle.texts.specs.Appended.{line}
 use Rattle.rows.specs.Halfedges.{is-paired}
 use Rattle.report.specs.declared.Outcome.{Outcome}
 use Rattle.report.specs.declared.Outcome.the-variants as O
@@ -38,10 +38,6 @@ row-word = 114 ∷ 111 ∷ 119 ∷ 61 ∷ []
 -- line=
 abbrev pub line-word : List ℕ
 line-word = 108 ∷ 105 ∷ 110 ∷ 101 ∷ 61 ∷ []
-
--- a word, a value and the end of the line
-abbrev pub line : List ℕ → List ℕ → List ℕ
-line word value = word ++ (value ++ (newline ∷ []))
 
 -- comma-separated, empty if none
 unfoldable pub behind-commas : List ℕ → List ℕ
@@ -76,12 +72,6 @@ live-triangles rows (suc n) = live-triangles rows n + one (is-paired rows (3 * n
 -- vertex rows, less half the live half-edges, plus live triangles
 unfoldable pub euler : ℕ → ℕ → List ℤ → ℤ
 euler vertices triangles rows = pos (vertices + live-triangles rows triangles) -ℤ pos (live-halfedges rows (3 * triangles) / 2)
-
--- bytes put behind those in use, and what is behind them kept
-pub record Appended (before : List ℕ) (used : ℕ) (bytes : List ℕ) (after : List ℕ) (r : ℕ) : Type 0 where
-  pub count : r ≡ used + length bytes
-  pub text : take r after ≡ take used before ++ bytes
-  pub rest : drop r after ≡ drop r before
 
 -- the visit list holds the steps
 abbrev pub Listed : Outcome → List ℕ → Type 0

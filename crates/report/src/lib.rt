@@ -3,10 +3,10 @@ ghost use mathlib.Core.Path.{_≡_};
 ghost use mathlib.Core.List.{[], _∷_, _++_};
 ghost use Prim.Native.Nat.{_+_, _*_, _≤_};
 ghost use lib.ListN.{length, take};
-ghost use lib.IntN.{pos, _-ℤ_};
 ghost use Rattle.digits.specs.Written.{comma, decimal, signed};
 ghost use Rattle.rows.specs.Halfedges.{lent-halfedges};
-ghost use Rattle.report.specs.Report.{Appended, Listed, line as Report·line, one as Report·one, answer-word, visit-word, euler-word, commas, live-halfedges, live-triangles, euler, text-of};
+ghost use Rattle.texts.specs.Appended.{Appended, line};
+ghost use Rattle.report.specs.Report.{Listed, one as Report·one, answer-word, visit-word, euler-word, commas, live-halfedges, live-triangles, euler, text-of};
 use rows::corners;
 
 // What is reported: added and steps, an answer, the least row that is not in order, or the first bad line.
@@ -17,46 +17,13 @@ pub enum Outcome {
     BadFile(usize),
 }
 
-// Puts bytes behind those in use.
-fn put_bytes(out: &mut [u8], used: usize, bytes: &[u8]) -> usize
-    requires { ⌜ used + length (now bytes) ≤ length (now out) ⌝ }
-    ensures { λ r. ⌜ Appended (now (out .entry)) used (now (bytes .entry)) (now (out .exit)) r ⌝ }
-{
-    let mut i = 0;
-    while i < bytes.len() {
-        out[used + i] = bytes[i];
-        i += 1;
-    }
-    used + i
-}
-
-// Puts a decimal number.
-fn put_number(out: &mut [u8], used: usize, n: u64) -> usize
-    requires { ⌜ used + 20 ≤ length (now out) ⌝ }
-    ensures { λ r. ⌜ Appended (now (out .entry)) used (decimal n) (now (out .exit)) r × (r ≤ used + 20) ⌝ }
-{
-    let mut text = [0u8; 20];
-    let k = io::decimal(n, &mut text);
-    put_bytes(out, used, &text[..k])
-}
-
-// Puts a word, a number and the end of the line.
-fn put_line(out: &mut [u8], used: usize, word: &[u8], n: usize) -> usize
-    requires { ⌜ (length (now word) ≤ 10) × (used + 40 ≤ length (now out)) ⌝ }
-    ensures { λ r. ⌜ Appended (now (out .entry)) used (Report·line (now (word .entry)) (decimal n)) (now (out .exit)) r × (r ≤ used + 40) ⌝ }
-{
-    let a = put_bytes(out, used, word);
-    let b = put_number(out, a, n as u64);
-    put_bytes(out, b, b"\n")
-}
-
 // Puts a comma and a number.
 fn put_next(out: &mut [u8], used: usize, n: u64) -> usize
     requires { ⌜ used + 21 ≤ length (now out) ⌝ }
     ensures { λ r. ⌜ Appended (now (out .entry)) used ((comma ∷ []) ++ decimal n) (now (out .exit)) r × (r ≤ used + 21) ⌝ }
 {
-    let a = put_bytes(out, used, b",");
-    put_number(out, a, n)
+    let a = texts::put_bytes(out, used, b",");
+    texts::put_number(out, a, n)
 }
 
 fn wide(n: u32) -> u64
@@ -73,7 +40,7 @@ fn put_visit(out: &mut [u8], used: usize, visit: &[u32], steps: usize) -> usize
     if steps == 0 {
         return used;
     }
-    let mut at = put_number(out, used, wide(visit[0]));
+    let mut at = texts::put_number(out, used, wide(visit[0]));
     let mut i = 1;
     while i < steps {
         at = put_next(out, at, wide(visit[i]));
@@ -85,11 +52,11 @@ fn put_visit(out: &mut [u8], used: usize, visit: &[u32], steps: usize) -> usize
 // Puts the line of the visit list.
 fn put_visit_line(out: &mut [u8], used: usize, visit: &[u32], steps: usize) -> usize
     requires { ⌜ (steps ≤ length (now visit)) × (used + 21 * steps + 7 ≤ length (now out)) ⌝ }
-    ensures { λ r. ⌜ Appended (now (out .entry)) used (Report·line visit-word (commas (take steps (now (visit .entry))))) (now (out .exit)) r × (r ≤ used + 21 * steps + 7) ⌝ }
+    ensures { λ r. ⌜ Appended (now (out .entry)) used (line visit-word (commas (take steps (now (visit .entry))))) (now (out .exit)) r × (r ≤ used + 21 * steps + 7) ⌝ }
 {
-    let a = put_bytes(out, used, b"visit=");
+    let a = texts::put_bytes(out, used, b"visit=");
     let b = put_visit(out, a, visit, steps);
-    put_bytes(out, b, b"\n")
+    texts::put_bytes(out, b, b"\n")
 }
 
 fn one(t: bool) -> usize
@@ -132,18 +99,6 @@ fn live_triangles(rows: &[i32], n: usize) -> usize
     live
 }
 
-// Puts the difference of two numbers, with a sign where it is negative.
-fn put_difference(out: &mut [u8], used: usize, more: usize, less: usize) -> usize
-    requires { ⌜ used + 21 ≤ length (now out) ⌝ }
-    ensures { λ r. ⌜ Appended (now (out .entry)) used (signed (pos more -ℤ pos less)) (now (out .exit)) r × (r ≤ used + 21) ⌝ }
-{
-    if less <= more {
-        return put_number(out, used, (more - less) as u64);
-    }
-    let a = put_bytes(out, used, b"-");
-    put_number(out, a, (less - more) as u64)
-}
-
 // Puts the line of the euler number.
 fn put_euler_line(
     out: &mut [u8],
@@ -153,13 +108,13 @@ fn put_euler_line(
     rows: &[i32],
 ) -> usize
     requires { ⌜ (used + 28 ≤ length (now out)) × ((vertices ≤ 1000000) × ((triangles ≤ 1000000) × (3 * triangles ≤ lent-halfedges (now rows)))) ⌝ }
-    ensures { λ r. ⌜ Appended (now (out .entry)) used (Report·line euler-word (signed (euler vertices triangles (now (rows .entry))))) (now (out .exit)) r × (r ≤ used + 28) ⌝ }
+    ensures { λ r. ⌜ Appended (now (out .entry)) used (line euler-word (signed (euler vertices triangles (now (rows .entry))))) (now (out .exit)) r × (r ≤ used + 28) ⌝ }
 {
     let more = vertices + live_triangles(rows, triangles);
     let less = live_halfedges(rows, 3 * triangles) / 2;
-    let a = put_bytes(out, used, b"euler=");
-    let b = put_difference(out, a, more, less);
-    put_bytes(out, b, b"\n")
+    let a = texts::put_bytes(out, used, b"euler=");
+    let b = texts::put_difference(out, a, more, less);
+    texts::put_bytes(out, b, b"\n")
 }
 
 // Puts the lines of a split that was done.
@@ -175,9 +130,9 @@ fn put_done(
     requires { ⌜ (20000 ≤ length (now out)) × ((steps ≤ 768) × ((steps ≤ length (now visit)) × ((vertices ≤ 1000000) × ((triangles ≤ 1000000) × (3 * triangles ≤ lent-halfedges (now rows)))))) ⌝ }
     ensures { λ r. ⌜ Appended (now (out .entry)) 0 (text-of (Outcome.Done added steps) (now (visit .entry)) (euler vertices triangles (now (rows .entry)))) (now (out .exit)) r × (r ≤ 20000) ⌝ }
 {
-    let a = put_line(out, 0, b"answer=", 0);
-    let b = put_line(out, a, b"added=", added);
-    let c = put_line(out, b, b"steps=", steps);
+    let a = texts::put_line(out, 0, b"answer=", 0);
+    let b = texts::put_line(out, a, b"added=", added);
+    let c = texts::put_line(out, b, b"steps=", steps);
     let d = put_visit_line(out, c, visit, steps);
     put_euler_line(out, d, vertices, triangles, rows)
 }
@@ -185,10 +140,10 @@ fn put_done(
 // Puts the lines of a refusal.
 fn put_refused(out: &mut [u8], answer: usize, word: &[u8], value: usize) -> usize
     requires { ⌜ (20000 ≤ length (now out)) × (length (now word) ≤ 10) ⌝ }
-    ensures { λ r. ⌜ Appended (now (out .entry)) 0 (Report·line answer-word (decimal answer) ++ Report·line (now (word .entry)) (decimal value)) (now (out .exit)) r × (r ≤ 20000) ⌝ }
+    ensures { λ r. ⌜ Appended (now (out .entry)) 0 (line answer-word (decimal answer) ++ line (now (word .entry)) (decimal value)) (now (out .exit)) r × (r ≤ 20000) ⌝ }
 {
-    let a = put_line(out, 0, b"answer=", answer);
-    put_line(out, a, word, value)
+    let a = texts::put_line(out, 0, b"answer=", answer);
+    texts::put_line(out, a, word, value)
 }
 
 // Puts a whole report at the front of the buffer; how many bytes it has.
@@ -207,7 +162,7 @@ pub fn report(
         Outcome::Done(added, steps) => {
             put_done(out, added, steps, visit, vertices, triangles, rows)
         }
-        Outcome::Refused(answer) => put_line(out, 0, b"answer=", answer),
+        Outcome::Refused(answer) => texts::put_line(out, 0, b"answer=", answer),
         Outcome::Unsound(row) => put_refused(out, 3, b"row=", row),
         Outcome::BadFile(number) => put_refused(out, 11, b"line=", number),
     }

@@ -29,7 +29,8 @@ use Rattle.refusals.proofs.Told.{split-pinched-verts}
 use Rattle.meshfile.specs.Format.{WellFormed}
 use Rattle.meshfile.specs.Steps.{holding}
 use Rattle.meshfile.specs.Told.{limits-of, laid}
-use Rattle.report.specs.Report.{answer-word, added-word, steps-word, visit-word, euler-word, row-word, line, commas, euler, text-of}
+use Rattle.texts.specs.Appended.{line}
+use Rattle.report.specs.Report.{answer-word, added-word, steps-word, visit-word, euler-word, row-word, commas, euler, text-of}
 use Rattle.splitfile.specs.Printed.{no-halfedges, no-positions, counts, no-work, no-visit, split-with, text-after, reportOf}
 use Rattle.splitfile.proofs.Told.{report-told}
 use Rattle.reported.specs.Reported.{held, Parted, Reported, out-of-order, split-up, full}

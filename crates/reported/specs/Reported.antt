@@ -15,7 +15,8 @@ use Rattle.net.specs.Sound.{Sound, LeastOut}
 use Rattle.splitting.specs.Split.{Outcome}
 use Rattle.splitsound.specs.Demand.{Demand3}
 use Rattle.meshfile.specs.Told.{laid}
-use Rattle.report.specs.Report.{answer-word, added-word, steps-word, visit-word, euler-word, row-word, line, commas, euler}
+use Rattle.texts.specs.Appended.{line}
+use Rattle.report.specs.Report.{answer-word, added-word, steps-word, visit-word, euler-word, row-word, commas, euler}
 use Rattle.splitfile.specs.Printed.{no-halfedges, no-positions, counts, lent, no-work, no-visit}
 
 -- the net that the file holds: its positions and rows in the first rows of what the program lends

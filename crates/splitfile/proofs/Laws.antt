@@ -31,8 +31,9 @@ use Rattle.meshfile.specs.Told.{limits-of, laid, reading, meshSaid, readMesh}
 use Rattle.meshfile.proofs.Told.{found-exactly, read-agree}
 use Rattle.report.specs.declared.Outcome.{Outcome}
 use Rattle.report.specs.declared.Outcome.the-variants as O
-use Rattle.report.specs.Report.{euler, text-of, Appended, Listed}
-use Rattle.report.proofs.Texts.{appended-is}
+use Rattle.texts.specs.Appended.{Appended}
+use Rattle.texts.proofs.Appends.{appended-is}
+use Rattle.report.specs.Report.{euler, text-of, Listed}
 use Rattle.splitfile.specs.Printed.{outcome-of, vertices-after, no-halfedges, no-positions, counts, lent, no-work, no-visit, split-with, text-after, reportOf, printed}
 
 -- what `report` asks of an outcome

@@ -6,7 +6,7 @@ ghost use Prim.Native.Nat.{_*_, _≤_};
 ghost use lib.ListN.{length};
 ghost use Rattle.rows.specs.Halfedges.{lent-halfedges};
 ghost use Rattle.split.specs.Answer.{splitSaid};
-ghost use Rattle.report.specs.Report.{Appended};
+ghost use Rattle.texts.specs.Appended.{Appended};
 ghost use Rattle.splitfile.specs.Printed.{outcome-of, vertices-after, split-with, text-after, reportOf, printed};
 use meshfile::Mesh;
 use net::Counts;

@@ -1,7 +1,9 @@
 -- `report::put_euler_line` meets its contract: piece by piece, the counts as they were found.
+use Prim.Native.Nat.{_+_, _/_}
 use native.Mathlib.Omega.{arith}
 use Rattle.report.specs.Report.{euler}
-use Rattle.report.proofs.Texts.{appended-on, appended-as}
+use Rattle.texts.proofs.Appends.{appended-on, appended-as}
+use Rattle.texts.proofs.Numbers.{difference-few}
 use borrow.Author.Needs.{needs}
 use Rattle.report.proofs.put_euler_line.Statement.{statement}
 use Rattle.report.proofs.put_euler_line.Tie as tie
@@ -25,20 +27,25 @@ put-bytes-requires : tie.Need-put-bytes-requires
 put-bytes-requires c κs = search needs
 
 put-difference-requires : tie.Need-put-difference-requires
-put-difference-requires c κs = search needs
+put-difference-requires c κs = omega (arith, c .before .before .before .put-bytes .ensures .count, difference-few (c .before .before .before .before .before .before .before .before .before .args .vertices + c .before .before .before .before .before .before .before .live-triangles .result) (c .before .before .before .before .before .before .live-halfedges .result / 2) (omega arith) (omega arith))
 
 slice-aggregate-put-bytes-2 : tie.Need-slice-aggregate-put-bytes-2
 slice-aggregate-put-bytes-2 c = search needs
 
 put-bytes-requires-2 : tie.Need-put-bytes-requires-2
-put-bytes-requires-2 c κs = search needs
+put-bytes-requires-2 c κs = omega (arith, c .before .before .before .before .before .before .before .before .put-bytes .ensures .count, c .before .before .before .before .put-difference .ensures .count, difference-few (c .before .before .before .before .before .before .before .before .before .before .before .before .before .before .args .vertices + c .before .before .before .before .before .before .before .before .before .before .before .before .live-triangles .result) (c .before .before .before .before .before .before .before .before .before .before .before .live-halfedges .result / 2) (omega arith) (omega arith))
 
 same-length : tie.Need-same-length
 same-length c = search needs
 
 returns : tie.Need-returns
 unfolding euler
-returns c = (appended-as (appended-on (c .before .before .before .before .before .before .before .before .before .before .before .put-bytes .ensures) (appended-on (c .before .before .before .before .before .before .before .put-difference .ensures .0) (c .before .before .put-bytes2 .ensures))) (rw (c .before .before .before .before .before .before .before .before .before .before .before .before .before .before .before .live-triangles .ensures .0, c .before .before .before .before .before .before .before .before .before .before .before .before .before .before .live-halfedges .ensures .0)), omega (arith, c .before .before .before .before .before .before .before .before .before .before .before .put-bytes .ensures .count, c .before .before .put-bytes2 .ensures .count))
+returns c = (
+  appended-as
+      (appended-on (c .before .before .before .before .before .before .before .before .before .before .before .put-bytes .ensures) (appended-on (c .before .before .before .before .before .before .before .put-difference .ensures) (c .before .before .put-bytes2 .ensures)))
+      (rw (c .before .before .before .before .before .before .before .before .before .before .before .before .before .before .before .live-triangles .ensures .0, c .before .before .before .before .before .before .before .before .before .before .before .before .before .before .live-halfedges .ensures .0)),
+  omega (arith, c .before .before .before .before .before .before .before .before .before .before .before .put-bytes .ensures .count, c .before .before .before .before .before .before .before .put-difference .ensures .count, c .before .before .put-bytes2 .ensures .count, difference-few (c .before .before .before .before .before .before .before .before .before .before .before .before .before .before .before .before .before .args .vertices + c .before .before .before .before .before .before .before .before .before .before .before .before .before .before .before .live-triangles .result) (c .before .before .before .before .before .before .before .before .before .before .before .before .before .before .live-halfedges .result / 2) (omega arith) (omega arith)),
+)
 
 pub put-euler-line-spec : {M : Type 1} → statement M
 put-euler-line-spec =

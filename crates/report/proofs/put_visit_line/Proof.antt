@@ -1,6 +1,6 @@
 -- `report::put_visit_line` meets its contract: piece by piece.
 use native.Mathlib.Omega.{arith}
-use Rattle.report.proofs.Texts.{appended-on}
+use Rattle.texts.proofs.Appends.{appended-on}
 use borrow.Author.Needs.{needs}
 use Rattle.report.proofs.put_visit_line.Statement.{statement}
 use Rattle.report.proofs.put_visit_line.Tie as tie
@@ -24,7 +24,10 @@ same-length : tie.Need-same-length
 same-length c = search needs
 
 returns : tie.Need-returns
-returns c = (appended-on (c .before .before .before .before .before .before .before .before .before .before .before .put-bytes .ensures) (appended-on (c .before .before .before .before .before .before .before .put-visit .ensures .0) (c .before .before .put-bytes2 .ensures)), omega (arith, c .before .before .before .before .before .before .before .before .before .before .before .put-bytes .ensures .count, c .before .before .put-bytes2 .ensures .count))
+returns c = (
+  appended-on (c .before .before .before .before .before .before .before .before .before .before .before .put-bytes .ensures) (appended-on (c .before .before .before .before .before .before .before .put-visit .ensures .0) (c .before .before .put-bytes2 .ensures)),
+  omega (arith, c .before .before .before .before .before .before .before .before .before .before .before .put-bytes .ensures .count, c .before .before .put-bytes2 .ensures .count),
+)
 
 pub put-visit-line-spec : {M : Type 1} → statement M
 put-visit-line-spec =

@@ -1,6 +1,7 @@
 -- `report::report` meets its contract: by what is reported.
 use native.Mathlib.Omega.{arith}
-use Rattle.report.specs.Report.{text-of}
+use Rattle.texts.proofs.Numbers.{line-few}
+use Rattle.report.specs.Report.{text-of, answer-word}
 use borrow.Author.Needs.{needs}
 use Rattle.report.proofs.report.Statement.{statement}
 use Rattle.report.proofs.report.Tie as tie
@@ -18,7 +19,7 @@ slice-aggregate-put-line : tie.Need-slice-aggregate-put-line
 slice-aggregate-put-line c = search needs
 
 put-line-requires : tie.Need-put-line-requires
-put-line-requires c κs = search needs
+put-line-requires c κs = omega (arith, line-few answer-word (c .before .before .before .outcome2 .given .0 .0) (omega arith))
 
 enum-known-outcome-3 : tie.Need-enum-known-outcome-3
 enum-known-outcome-3 c = search needs
@@ -50,7 +51,9 @@ same-length-2 c = search needs
 
 returns-2 : tie.Need-returns-2
 unfolding text-of
-returns-2 c = rw (c .before .before .before .before .before .before .outcome2 .given .1) (c .before .before .put-line .ensures .0, omega (arith, c .before .before .put-line .ensures .1))
+returns-2 c =
+    rw (c .before .before .before .before .before .before .outcome2 .given .1)
+    (c .before .before .put-line .ensures, omega (arith, c .before .before .put-line .ensures .count, line-few answer-word (c .before .before .before .before .before .before .outcome2 .given .0 .0) (omega arith)))
 
 same-length-3 : tie.Need-same-length-3
 same-length-3 c = search needs

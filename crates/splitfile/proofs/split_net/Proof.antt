@@ -1,6 +1,6 @@
 -- `splitfile::split_net` meets its contract: what the split leaves is what `report` needs, and its text is the report.
 use native.Mathlib.Omega.{arith}
-use Rattle.report.proofs.Texts.{appended-as}
+use Rattle.texts.proofs.Appends.{appended-as}
 use Rattle.splitfile.specs.Printed.{split-with}
 use Rattle.splitfile.proofs.Laws.{fits-here, text-here}
 use borrow.Author.Needs.{needs}

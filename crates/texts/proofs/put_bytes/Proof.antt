@@ -1,11 +1,11 @@
--- `report::put_bytes` meets its contract: the bytes so far are pasted behind those in use.
+-- `texts::put_bytes` meets its contract: the bytes so far are pasted behind those in use.
 use Prim.Native.Nat.{_-_}
 use native.Mathlib.Omega.{arith}
 use lib.ListN.{length}
-use Rattle.report.proofs.Texts.{Pasting, pasting-begins, pasting-on, pasting-done}
+use Rattle.texts.proofs.Appends.{Pasting, pasting-begins, pasting-on, pasting-done}
 use borrow.Author.Needs.{needs}
-use Rattle.report.proofs.put_bytes.Statement.{statement}
-use Rattle.report.proofs.put_bytes.Tie as tie
+use Rattle.texts.proofs.put_bytes.Statement.{statement}
+use Rattle.texts.proofs.put_bytes.Tie as tie
 
 abbrev Inv-loop : tie.InvT-loop
 Inv-loop out₀ used bytes i₀ out i = Pasting bytes out₀ used out i
