@@ -104,10 +104,7 @@ const GROWN: &[Field] = &[Plain("row"), Plain("halfedges"), Plain("vertices")];
 
 fn next_ours(_: &mut Lent, a: &Asked) -> Result<Said, String> {
     let told = unsafe { raw::spoonferret_next_halfedge(a.numbers[0]) };
-    Ok(match told.number {
-        0 => Said::with(0, &[signed(told.next)]),
-        n => Said::refused(n),
-    })
+    Ok(Said::with(told.number, &[signed(told.next)]))
 }
 
 fn next_owed(_: &mut Lent, a: &Asked) -> Said {
@@ -119,10 +116,7 @@ fn next_owed(_: &mut Lent, a: &Asked) -> Said {
 
 fn tri_ours(_: &mut Lent, a: &Asked) -> Result<Said, String> {
     let told = unsafe { raw::spoonferret_tri_of(a.numbers[0]) };
-    Ok(match told.number {
-        0 => Said::with(0, &[signed(told.first), signed(told.second), signed(told.third)]),
-        n => Said::refused(n),
-    })
+    Ok(Said::with(told.number, &[signed(told.first), signed(told.second), signed(told.third)]))
 }
 
 fn tri_owed(_: &mut Lent, a: &Asked) -> Said {
@@ -183,10 +177,7 @@ fn short_ours(_: &mut Lent, a: &Asked) -> Result<Said, String> {
             f64::from_bits(f[7]),
         )
     };
-    Ok(match told.number {
-        8 => Said::with(8, &[told.squared_length, told.limit]),
-        n => Said::refused(n),
-    })
+    Ok(Said::with(told.number, &[told.squared_length, told.limit]))
 }
 
 fn short_owed(_: &mut Lent, a: &Asked) -> Said {
@@ -291,10 +282,7 @@ fn check_ours(l: &mut Lent, _: &Asked) -> Result<Said, String> {
     let mut g = GuardedNet::of(l);
     let told = call!(spoonferret_check_net, g);
     g.back(l)?;
-    Ok(match told.number {
-        3 => Said::with(3, &[told.row as u64]),
-        n => Said::refused(n),
-    })
+    Ok(Said::with(told.number, &[told.row as u64]))
 }
 
 fn check_owed(l: &mut Lent, _: &Asked) -> Said {

@@ -125,11 +125,19 @@ impl Asked {
     }
 }
 
-/// Document 01's number and the values that come with it, each as 64 bits.
-#[derive(Clone, Debug, PartialEq)]
+/// Document 01's number and the values that come with it, each as 64 bits. A value that is not named is 0, as the header promises of
+/// every field that does not come with an answer.
+#[derive(Clone, Debug)]
 pub struct Said {
     pub number: u32,
     pub values: Vec<u64>,
+}
+
+impl PartialEq for Said {
+    fn eq(&self, other: &Said) -> bool {
+        let value = |said: &Said, i: usize| said.values.get(i).copied().unwrap_or(0);
+        self.number == other.number && (0..self.values.len().max(other.values.len())).all(|i| value(self, i) == value(other, i))
+    }
 }
 
 impl Said {
