@@ -133,10 +133,17 @@ typedef struct {
     uint64_t limit;
 } spoonferret_length_answer;
 
+/* row: the least row not in order. */
 typedef struct {
     uint32_t number;
     size_t row;
 } spoonferret_row_answer;
+
+/* As of check_net; update_vert's own. */
+typedef struct {
+    uint32_t number;
+    size_t row;
+} spoonferret_update_answer;
 
 /* clause: the first clause of "in order" that the row breaks, 0 for none; other: the other row that this concerns. */
 typedef struct {
@@ -250,11 +257,11 @@ spoonferret_answer spoonferret_pair_up(spoonferret_used used, int32_t *halfedges
    and end_vert of rows on the way are written; the net is as a rule not sound afterwards, which the caller mends.
    0: done. 1: shape. 3: not sound; row. 4: vertex is not in 0..used.vertices, or start or end not in 0..used.halfedges. 5: start or end is
    dead. 7: the walk does not come to end. */
-spoonferret_row_answer spoonferret_update_vert(spoonferret_used used, int32_t *halfedges, size_t halfedges_length,
-                                               const uint64_t *positions, size_t positions_length, const uint64_t *normals,
-                                               size_t normals_length, const int32_t *references, size_t references_length,
-                                               const uint64_t *properties, size_t properties_length, int32_t vertex,
-                                               int32_t start, int32_t end);
+spoonferret_update_answer spoonferret_update_vert(spoonferret_used used, int32_t *halfedges, size_t halfedges_length,
+                                                  const uint64_t *positions, size_t positions_length, const uint64_t *normals,
+                                                  size_t normals_length, const int32_t *references, size_t references_length,
+                                                  const uint64_t *properties, size_t properties_length, int32_t vertex,
+                                                  int32_t start, int32_t end);
 
 /* Takes the triangle of halfedge out. Its rows in order are halfedge, the next and the next of that: the partners of the second and the third
    become each other's; then start_vert, end_vert and paired_halfedge of the three rows become -1, and prop_vert stays. The partner of

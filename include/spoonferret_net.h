@@ -116,7 +116,7 @@ static inline spoonferret_answer spoonferret_net_pair_up(spoonferret_net *net, i
     return spoonferret_pair_up(SPOONFERRET_ROWS(net), first, second);
 }
 
-static inline spoonferret_row_answer spoonferret_net_update_vert(spoonferret_net *net, int32_t vertex, int32_t start, int32_t end) {
+static inline spoonferret_update_answer spoonferret_net_update_vert(spoonferret_net *net, int32_t vertex, int32_t start, int32_t end) {
     return spoonferret_update_vert(SPOONFERRET_ROWS(net), vertex, start, end);
 }
 

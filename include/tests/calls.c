@@ -49,6 +49,14 @@ static void short_or_long(void) {
     EXPECT(is_long.number == 8 && of_bits(is_long.squared_length) == 25 && of_bits(is_long.limit) == 25);
     EXPECT(spoonferret_short_test(from, to, 1, 2, -1, 6).number == 0);
     EXPECT(spoonferret_short_test(from, to, 2, 2, 5, 6).number == 0);
+    /* each coordinate of each point told from every other; the squared length from the limit; tol from epsilon, and the two numbers */
+    from = (spoonferret_point){1, 2, 4}, to = (spoonferret_point){3, 10, 20};
+    is_long = spoonferret_short_test(from, to, 1, 2, 3, 5);
+    EXPECT(is_long.number == 8 && of_bits(is_long.squared_length) == 324 && of_bits(is_long.limit) == 9);
+    EXPECT(of_bits(spoonferret_short_test(from, to, 2, 1, 3, 5).limit) == 25);
+    /* the order of the sum: 2.25 and 2.25 and then 2 to the 54, where the others would round up twice */
+    from = (spoonferret_point){0, 0, 0}, to = (spoonferret_point){1.5, 1.5, 134217728};
+    EXPECT(of_bits(spoonferret_short_test(from, to, 1, 2, 3, 5).squared_length) == 18014398509481988);
 }
 
 /* an array of no elements still has a place */
@@ -125,7 +133,7 @@ static void surgery(void) {
     EXPECT(spoonferret_update_vert(NET, 3, 0, 5).number == 1);
     used.halfedges = 9;
     rows[1] = 2;
-    spoonferret_row_answer unsound = spoonferret_update_vert(NET, 3, 0, 5);
+    spoonferret_update_answer unsound = spoonferret_update_vert(NET, 3, 0, 5);
     EXPECT(unsound.number == 3 && unsound.row == 0);
 
     /* the second and third rows from 0 have partners 5 and 4 */

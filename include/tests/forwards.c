@@ -102,10 +102,10 @@ spoonferret_answer spoonferret_pair_up(NET_ROWS, int32_t first, int32_t second) 
     return (spoonferret_answer){answer};
 }
 
-spoonferret_row_answer spoonferret_update_vert(NET_ROWS, int32_t vertex, int32_t start, int32_t end) {
+spoonferret_update_answer spoonferret_update_vert(NET_ROWS, int32_t vertex, int32_t start, int32_t end) {
     NOTE;
     numbers(vertex, start, end);
-    return (spoonferret_row_answer){answer, ROW};
+    return (spoonferret_update_answer){answer, ROW};
 }
 
 spoonferret_row_answer spoonferret_collapse_tri(NET_ROWS, int32_t halfedge) {
@@ -241,9 +241,9 @@ static void each(uint32_t said) {
     GIVEN("spoonferret_pair_up", 5);
     EXPECT(noted.numbers[0] == 41 && noted.numbers[1] == 42 && counts(&net, 11, 12, 13, 14));
 
-    row = spoonferret_net_update_vert(&net, 41, 42, 43);
+    spoonferret_update_answer update = spoonferret_net_update_vert(&net, 41, 42, 43);
     GIVEN("spoonferret_update_vert", 5);
-    EXPECT(row.number == said && row.row == ROW);
+    EXPECT(update.number == said && update.row == ROW);
     EXPECT(noted.numbers[0] == 41 && noted.numbers[1] == 42 && noted.numbers[2] == 43 && counts(&net, 11, 12, 13, 14));
 
     row = spoonferret_net_collapse_tri(&net, 41);

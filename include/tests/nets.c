@@ -27,7 +27,7 @@ static const int32_t pillows[48] = {0, 1, 6, 20, 1, 2, 5,  21, 2, 0, 4,  22, 1, 
 
 /* room for four triangles and five vertices more */
 static int32_t halfedges[96], references[24], spare_halfedges[48];
-static double positions[30], normals[24], properties[14], spare_positions[15];
+static double positions[30], normals[24], properties[33], spare_positions[15];
 static uint32_t words[29], list[24];
 static uint8_t bytes[12];
 
@@ -133,6 +133,24 @@ static void counts_and_lengths(void) {
         MOVED(used.normals, 0, 0);
         MOVED(used.references, 0, 0);
         MOVED(used.properties, 0, 0);
+    }
+}
+
+/* what is not in use need not be lent, whatever is of its like: every call is done */
+static void in_shape(void) {
+    for (int k = 0; k < 13; k++) {
+        spoonferret_net net = fresh(example, 5);
+        spoonferret_buffers b = lent(&net);
+        net.used.normals = net.normals_length = 0;
+        expect(calls[k].call(&net, &b) == 0, calls[k].name, __LINE__);
+        net = fresh(example, 5);
+        net.used.references = net.references_length = 0;
+        expect(calls[k].call(&net, &b) == 0, calls[k].name, __LINE__);
+        /* more property rows than a row may have numbers */
+        net = fresh(example, 5);
+        net.used.properties = net.properties_length = 33;
+        net.used.num_prop = 1;
+        expect(calls[k].call(&net, &b) == 0, calls[k].name, __LINE__);
     }
 }
 
@@ -250,6 +268,7 @@ static void places(void) {
 
 int main(void) {
     counts_and_lengths();
+    in_shape();
     buffers();
     places();
     printf("%d passed, %d failed\n", passed, failed);

@@ -111,7 +111,11 @@ pub fn update_vert(
         numbers[1],
         numbers[2],
     );
-    say_row(b"update_vert", told);
+    let row = RowAnswer {
+        number: told.number,
+        row: told.row,
+    };
+    say_row(b"update_vert", row);
 }
 
 pub fn collapse_tri(

@@ -18,7 +18,7 @@ ghost use Rattle.cleanup.specs.Cleanup.{cleanupTopology};
 ghost use Rattle.collapse.specs.CollapseEdge.{collapseEdge, tolerance};
 ghost use Rattle.explain.specs.Explain.{explainRow};
 ghost use Rattle.explain.specs.Answer.{explain-told};
-ghost use Rattle.told.specs.Told.{told, next-told, tri-told, length-told, row-told, counts-of, vector-of, eligible-of};
+ghost use Rattle.told.specs.Told.{told, next-told, tri-told, length-told, row-told, update-told, counts-of, vector-of, eligible-of};
 ghost use Rattle.station.specs.Left.{and-left, split-left, owners-left, loop-left, edge-left, edges-left, cleanup-left, collapse-left};
 use explain::answer::ExplainAnswer;
 use repairtold::CleanupTopologyAnswer;
@@ -34,6 +34,7 @@ use told::Point;
 use told::RowAnswer;
 use told::SplitAnswer;
 use told::TriAnswer;
+use told::UpdateAnswer;
 use told::Used;
 
 #[no_mangle]
@@ -151,8 +152,8 @@ pub extern "C" fn spoonferret_update_vert(
     vertex: i32,
     start: i32,
     end: i32,
-) -> RowAnswer
-    ensures { λ r. ⌜ (r, now (halfedges .exit)) ≡ and-left row-told (updateVert (counts-of used) (net (now (halfedges .entry)) (now (positions .entry)) (now (normals .entry)) (now (references .entry)) (now (properties .entry))) vertex start end) ⌝ }
+) -> UpdateAnswer
+    ensures { λ r. ⌜ (r, now (halfedges .exit)) ≡ and-left update-told (updateVert (counts-of used) (net (now (halfedges .entry)) (now (positions .entry)) (now (normals .entry)) (now (references .entry)) (now (properties .entry))) vertex start end) ⌝ }
 {
     told::of_update(updatevert::update_vert(
         told::counts_of(used),

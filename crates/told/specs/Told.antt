@@ -15,6 +15,7 @@ use Rattle.told.specs.declared.NextAnswer.{NextAnswer}
 use Rattle.told.specs.declared.TriAnswer.{TriAnswer}
 use Rattle.told.specs.declared.LengthAnswer.{LengthAnswer}
 use Rattle.told.specs.declared.RowAnswer.{RowAnswer}
+use Rattle.told.specs.declared.UpdateAnswer.{UpdateAnswer}
 use Rattle.told.specs.declared.SplitAnswer.{SplitAnswer}
 use Rattle.told.specs.declared.OwnersAnswer.{OwnersAnswer}
 use Rattle.told.specs.declared.LoopAnswer.{LoopAnswer}
@@ -55,6 +56,9 @@ length-told s = record { number = s .number; «squared_length» = bits (value (s
 
 abbrev pub row-told : Said → RowAnswer
 row-told s = record { number = s .number; row = counted (value (s .values) 0) }
+
+abbrev pub update-told : Said → UpdateAnswer
+update-told s = record { number = s .number; row = counted (value (s .values) 0) }
 
 -- the count that came at a place with the answer k; 0 with another
 abbrev pub count-on : ℕ → Said → ℕ → ℕ

@@ -11,7 +11,7 @@ ghost use Rattle.removefolded.specs.RemoveIfFolded.{removeSaid};
 ghost use Rattle.formloop.specs.FormLoop.{formSaid};
 ghost use Rattle.owners.specs.Scan.{ownersSaid};
 ghost use Rattle.split.specs.Answer.{splitSaid};
-ghost use Rattle.told.specs.Told.{counts-of, vector-of, eligible-of, told, next-told, tri-told, length-told, row-told, split-told, owners-told, loop-told, split-refused, loop-refused};
+ghost use Rattle.told.specs.Told.{counts-of, vector-of, eligible-of, told, next-told, tri-told, length-told, row-told, update-told, split-told, owners-told, loop-told, split-refused, loop-refused};
 use collapsetri::CollapseTri;
 use floats::Length;
 use floats::Vec3;
@@ -73,6 +73,13 @@ pub struct LengthAnswer {
 
 #[repr(C)]
 pub struct RowAnswer {
+    pub number: u32,
+    pub row: usize,
+}
+
+// update_vert's own.
+#[repr(C)]
+pub struct UpdateAnswer {
     pub number: u32,
     pub row: usize,
 }
@@ -201,19 +208,19 @@ pub fn of_check(said: Checked) -> RowAnswer
     }
 }
 
-pub fn of_update(said: UpdateVert) -> RowAnswer
-    ensures { λ r. ⌜ r ≡ row-told (updateSaid said) ⌝ }
+pub fn of_update(said: UpdateVert) -> UpdateAnswer
+    ensures { λ r. ⌜ r ≡ update-told (updateSaid said) ⌝ }
 {
     match said {
-        UpdateVert::Done => RowAnswer { number: 0, row: 0 },
-        UpdateVert::Shape => RowAnswer { number: 1, row: 0 },
-        UpdateVert::Unsound(h) => RowAnswer {
+        UpdateVert::Done => UpdateAnswer { number: 0, row: 0 },
+        UpdateVert::Shape => UpdateAnswer { number: 1, row: 0 },
+        UpdateVert::Unsound(h) => UpdateAnswer {
             number: 3,
             row: h.number(),
         },
-        UpdateVert::Number => RowAnswer { number: 4, row: 0 },
-        UpdateVert::Dead => RowAnswer { number: 5, row: 0 },
-        UpdateVert::Stopped => RowAnswer { number: 7, row: 0 },
+        UpdateVert::Number => UpdateAnswer { number: 4, row: 0 },
+        UpdateVert::Dead => UpdateAnswer { number: 5, row: 0 },
+        UpdateVert::Stopped => UpdateAnswer { number: 7, row: 0 },
     }
 }
 

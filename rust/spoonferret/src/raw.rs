@@ -75,6 +75,16 @@ pub struct RowAnswer {
     pub row: usize,
 }
 
+/// `spoonferret_update_answer`
+#[repr(C)]
+#[derive(Clone, Copy, Debug)]
+pub struct UpdateAnswer {
+    /// the answer's number
+    pub number: u32,
+    /// the least row that is not in order
+    pub row: usize,
+}
+
 /// `spoonferret_split_answer`
 #[repr(C)]
 #[derive(Clone, Copy, Debug)]
@@ -261,7 +271,7 @@ extern "C" {
         vertex: i32,
         start: i32,
         end: i32,
-    ) -> RowAnswer;
+    ) -> UpdateAnswer;
 
     /// `spoonferret_collapse_tri`
     pub fn spoonferret_collapse_tri(

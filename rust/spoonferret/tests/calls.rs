@@ -51,6 +51,13 @@ fn short() {
     assert_eq!(short_test(from, to, 2, 2, 100.0, 5.0), Err(Refusal::Long { squared_length: 25.0, limit: 25.0 }));
     let Err(Refusal::Long { squared_length, limit }) = short_test(from, to, 1, 2, f64::NAN, 6.0) else { panic!("a NaN is long") };
     assert_eq!((squared_length, limit.to_bits()), (25.0, 0x7FF8_0000_0000_0000));
+    // each coordinate of each point told from every other, the squared length from the limit, tol from epsilon
+    let (from, to) = (Vec3::new(1.0, 2.0, 4.0), Vec3::new(3.0, 10.0, 20.0));
+    assert_eq!(short_test(from, to, 1, 2, 3.0, 5.0), Err(Refusal::Long { squared_length: 324.0, limit: 9.0 }));
+    assert_eq!(short_test(from, to, 2, 1, 3.0, 5.0), Err(Refusal::Long { squared_length: 324.0, limit: 25.0 }));
+    // the order of the sum: in another it rounds up twice
+    let large = Err(Refusal::Long { squared_length: 18014398509481988.0, limit: 9.0 });
+    assert_eq!(short_test(Vec3::default(), Vec3::new(1.5, 1.5, 134217728.0), 1, 2, 3.0, 5.0), large);
 }
 
 #[test]
@@ -64,7 +71,14 @@ fn check() {
     assert_eq!(net.check(), Ok(()));
     net.num_prop = 33;
     assert_eq!(net.check(), Err(Refusal::Shape));
-    net.num_prop = 0;
+    // more rows of properties than a row may have numbers; normals where there are no references
+    (net.num_prop, net.properties) = (1, vec![0.0; 33]);
+    assert_eq!(net.check(), Ok(()));
+    (net.references, net.normals) = (vec![], vec![Vec3::default(); 4]);
+    assert_eq!(net.check(), Ok(()));
+    net.normals.pop();
+    assert_eq!(net.check(), Err(Refusal::Shape));
+    net.normals.clear();
     net.halfedges[10].paired_halfedge = 6;
     assert_eq!(net.check(), Err(Refusal::Unsound { row: 8, clause: Clause::NotBack { partner: 10 } }));
 }
