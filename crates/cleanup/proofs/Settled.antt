@@ -4,7 +4,7 @@ use mathlib.Core.List.{List}
 use Prim.Native.Nat.{ℕ}
 use lib.IntN.{ℤ}
 use Rattle.answers.specs.Answers.{Said}
-use Rattle.splitting.specs.Split.{Outcome, outcome}
+use Rattle.splitting.specs.Split.{SplitOutcome, split-outcome}
 use Rattle.steps.specs.declared.Run.{Run}
 use Rattle.steps.specs.Steps.{middle}
 use Rattle.growth.specs.declared.Limits.{Limits}
@@ -17,8 +17,8 @@ use Rattle.settling.proofs.Entry.{ends-settled}
 use Rattle.rounds.specs.Rounds.{rounds}
 use Rattle.cleanup.specs.Cleanup.{split-run, after-split}
 
-pub split-so-far : (l : Limits) (H N : ℕ) (normals : List ℕ) (references : List ℤ) {said : Said} {rows : List ℤ} {positions work list : List ℕ} {o : Outcome} {run : Run} →
-    outcome said rows positions work list ≡ o → run ≡ split-run N (l .vertices) said → growing (middle rows positions run) H normals references ≡ after-split l H N normals references o
+pub split-so-far : (l : Limits) (H N : ℕ) (normals : List ℕ) (references : List ℤ) {said : Said} {rows : List ℤ} {positions work list : List ℕ} {o : SplitOutcome} {run : Run} →
+    split-outcome said rows positions work list ≡ o → run ≡ split-run N (l .vertices) said → growing (middle rows positions run) H normals references ≡ after-split l H N normals references o
 split-so-far l H N normals references {rows} {positions} e q =
     ap (λ (r : Run). growing (middle rows positions r) H normals references) q ∙ ap (after-split l H N normals references) e
 

@@ -17,10 +17,10 @@ use Rattle.net.specs.Net.{Net, net}
 use Rattle.net.specs.Counts.{Shaped, triangle-capacity-over, vertex-capacity-over, property-capacity-over}
 use Rattle.net.specs.Sound.{Sound}
 use Rattle.net.proofs.Shape.{capacity-lent, capacity-most}
-use Rattle.splitting.specs.Needs.{SoundRows}
-use Rattle.splitting.specs.Split.{Outcome, split-sound}
-use Rattle.splitting.specs.Told.{IsDone, IsFull}
-use Rattle.splitkept.specs.Kept.{FreeKept}
+use Rattle.splitting.specs.inner.Needs.{SoundRows}
+use Rattle.splitting.specs.Split.{SplitOutcome, split-sound}
+use Rattle.splitting.specs.Told.{SplitDone, IsFull}
+use Rattle.splitkept.specs.inner.Kept.{FreeKept}
 use Rattle.splitkept.proofs.Told.{split-left}
 use Rattle.growth.specs.declared.Limits.{Limits}
 use Rattle.growth.specs.Growth.{Growing}
@@ -63,7 +63,7 @@ zeroed-free a b l h k =
 module _ (l : Limits) (H N : ℕ) (rows : List ℤ) (positions normals : List ℕ) (references : List ℤ) (work list : List ℕ)
     (s : SoundRows H N rows) (capacity : l .vertices ≡ vertex-capacity-over positions) (f : Fitting l (begun H N rows positions normals references))
     (work-long : H + N ≤ length work) (list-long : H ≤ length list) where
-  abbrev o : Outcome
+  abbrev o : SplitOutcome
   o = split-sound H N rows positions work list
 
   abbrev before : Growing
@@ -104,7 +104,7 @@ module _ (l : Limits) (H N : ℕ) (rows : List ℤ) (positions normals : List �
   pub splits : Splits
   splits = go (split-left (counts H N rows positions s few) (bare H N rows positions s few) work list (bare-sound H N rows positions s few) work-long list-long)
     where
-      go : ((added : ℕ) × (steps : ℕ) × (IsDone (counts H N rows positions s few) (bare H N rows positions s few) work list o added steps × FreeKept (counts H N rows positions s few) (bare H N rows positions s few) list o added steps)) ⊎ IsFull (counts H N rows positions s few) (bare H N rows positions s few) work list o → Splits
+      go : ((added : ℕ) × (steps : ℕ) × (SplitDone (counts H N rows positions s few) (bare H N rows positions s few) work list o added steps × FreeKept (counts H N rows positions s few) (bare H N rows positions s few) list o added steps)) ⊎ IsFull (counts H N rows positions s few) (bare H N rows positions s few) work list o → Splits
       go (inl (added, steps, (d, k))) =
           let u : after .middle .run .vertices ≡ N + added = rw (d .said) refl in
           let g : Grows l before after = record {

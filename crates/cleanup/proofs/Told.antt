@@ -19,7 +19,7 @@ use Rattle.net.specs.declared.Counts.{Counts}
 use Rattle.net.specs.Net.{Net}
 use Rattle.net.specs.Counts.{is-shaped, vertex-capacity-over}
 use Rattle.rowtests.specs.Order.{in-order, first-failing}
-use Rattle.splitting.specs.Steps.{count, split-rows}
+use Rattle.splitting.specs.Steps.{count-rows, split-rows}
 use Rattle.splitting.specs.Split.{split-sound}
 use Rattle.growth.specs.declared.Limits.{Limits}
 use Rattle.growth.specs.Growth.{Growing, halted}
@@ -54,7 +54,7 @@ module _ (l : Limits) (N : ℕ) (rows : List ℤ) (positions normals : List ℕ)
       left (done (whole (pos 0) ∷ whole (pos N) ∷ [])) rows positions normals references spare-halfedges (over-triples N positions spare-positions) (cleared (l .halfedges + N) work) (cleared (l .halfedges) list)
 
   empty-done : cleanAt l 0 N rows positions normals references spare-halfedges spare-positions work list ≡ unchanged
-  unfolding cleanAt split-sound count split-rows rounds over-rows
+  unfolding cleanAt split-sound count-rows split-rows rounds over-rows
   empty-done = rw (le-leb 0 (vertex-capacity-over positions - N) (omega arith), add-zero N)
 
   none-done : (H : ℕ) → H ≡ 0 → cleanAt l H N rows positions normals references spare-halfedges spare-positions work list ≡ unchanged

@@ -15,7 +15,7 @@ use Rattle.net.specs.Net.{Net}
 use Rattle.net.specs.Counts.{is-shaped}
 use Rattle.soundness.specs.Check.{sound-or}
 use Rattle.rowtests.specs.Order.{least-out}
-use Rattle.splitting.specs.Split.{Outcome, split-sound}
+use Rattle.splitting.specs.Split.{SplitOutcome, split-sound}
 use Rattle.steps.specs.declared.Run.{Run}
 use Rattle.steps.specs.Steps.{middle, running, Going, NoRoom}
 use Rattle.steps.specs.Entries.{past}
@@ -40,7 +40,7 @@ abbrev pub split-run : ℕ → ℕ → Said → Run
 split-run N capacity s = cond (eqb (s .number) 0) (running (N + counted (value (s .values) 0)) Going) (running capacity NoRoom)
 
 -- the net as splitting leaves it
-abbrev pub after-split : Limits → ℕ → ℕ → List ℕ → List ℤ → Outcome → Growing
+abbrev pub after-split : Limits → ℕ → ℕ → List ℕ → List ℤ → SplitOutcome → Growing
 after-split l H N normals references o = growing (middle (o .halfedges) (o .positions) (split-run N (l .vertices) (o .said))) H normals references
 
 -- past the checks: the list takes splitting's visits; the spare holds the rows in use as at entry; the work buffer reads zero over the

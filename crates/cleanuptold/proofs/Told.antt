@@ -17,10 +17,10 @@ use Rattle.net.specs.Counts.{halfedge-capacity}
 use Rattle.net.specs.Sound.{Sound}
 use Rattle.net.proofs.Shape.{shaped-true}
 use Rattle.soundness.specs.Check.{sound-or}
-use Rattle.splitting.specs.Split.{Outcome, split-sound}
-use Rattle.splitting.specs.Told.{IsDone, IsFull}
+use Rattle.splitting.specs.Split.{SplitOutcome, split-sound}
+use Rattle.splitting.specs.Told.{SplitDone, IsFull}
 use Rattle.splitting.proofs.Net.{sound-rows}
-use Rattle.splitkept.specs.Kept.{FreeKept}
+use Rattle.splitkept.specs.inner.Kept.{FreeKept}
 use Rattle.splitkept.proofs.Told.{split-left}
 use Rattle.steps.specs.Steps.{middle, NoRoom}
 use Rattle.steps.specs.Entries.{past}
@@ -75,7 +75,7 @@ module _ (c : Counts) (n : Net) (spare-halfedges : List ℤ) (spare-positions wo
   abbrev at-clean : Left
   at-clean = cleanAt l H N (n .halfedges) (n .positions) (n .normals) (n .references) spare-halfedges spare-positions work list
 
-  abbrev o : Outcome
+  abbrev o : SplitOutcome
   o = split-sound H N (n .halfedges) (n .positions) work list
 
   -- as splitting leaves it, by what it says
@@ -126,7 +126,7 @@ module _ (c : Counts) (n : Net) (spare-halfedges : List ℤ) (spare-positions wo
         grew-trans l (s .grew) (rounds-grew l H split-there (s .grew .fitting))
 
     -- a split that finds no room refuses; else the rounds are made on a sound net
-    ways : ((added : ℕ) × (visited : ℕ) × (IsDone c n work list o added visited × FreeKept c n list o added visited)) ⊎ IsFull c n work list o → (steps .middle .run .how ≡ NoRoom) ⊎ SoundAfter c (n .properties) steps
+    ways : ((added : ℕ) × (visited : ℕ) × (SplitDone c n work list o added visited × FreeKept c n list o added visited)) ⊎ IsFull c n work list o → (steps .middle .run .how ≡ NoRoom) ⊎ SoundAfter c (n .properties) steps
     ways (inl (added, visited, (d, k))) =
         subst (λ (x : Growing). (x .middle .run .how ≡ NoRoom) ⊎ SoundAfter c (n .properties) x) (sym (ap (λ (s : Said). rounds l H (split-as s) .growing) (d .said)))
         (cleaned-sound c n work list sound o added visited d k)

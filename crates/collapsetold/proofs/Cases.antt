@@ -12,7 +12,7 @@ use Rattle.numbers.specs.Next.{next}
 use Rattle.rows.specs.Halfedges.{column, set-column, over-rows}
 use Rattle.rows.specs.Triples.{triple, put-triple, over-triples, zero-triples}
 use Rattle.net.specs.Counts.{is-shaped, triangle-capacity-over, vertex-capacity-over, property-capacity-over}
-use Rattle.rowtests.specs.Order.{live as is-live, in-order, first-failing}
+use Rattle.rowtests.specs.Order.{is-live, in-order, first-failing}
 use Rattle.pairing.specs.Pairing.{paired}
 use Rattle.walks.specs.Walk.{onward, moved, walk, update}
 use Rattle.triangles.specs.Triangles.{emptied, collapsed, collapse}
@@ -22,7 +22,7 @@ use Rattle.rings.specs.Ring.{ring, carried, find, turn-at, turn-once, tired, in
 use Rattle.collapsing.specs.declared.Tolerance.{Tolerance}
 use Rattle.collapsing.specs.Collapse.{between, judge, close, about, short-at, collapse-at}
 use Rattle.collapse.specs.CollapseEdge.{Left, collapseSettled, collapseNamed, collapseEdge, tolerance}
-use Rattle.example.specs.Example.{live, dead, P-rows, P-positions, counts, bare}
+use Rattle.example.specs.Example.{live-row, dead-row, P-rows, P-positions, counts, bare}
 
 pub record Case : Type 0 where
   pub halfedges : ℕ
@@ -60,17 +60,17 @@ by-tol n = tolerance (pos 9) (exact n) (exact (pos 0))
 -- three between two apexes
 abbrev bipyramid : List ℤ
 bipyramid =
-    live 0 1 3 ++ live 1 3 8 ++ live 3 0 13 ++ live 1 0 0 ++ live 0 4 17 ++ live 4 1 10 ++ live 1 2 9 ++ live 2 3 14 ++ live 3 1 1
-    ++ live 2 1 6 ++ live 1 4 5 ++ live 4 2 16 ++ live 2 0 15 ++ live 0 3 2 ++ live 3 2 7 ++ live 0 2 12 ++ live 2 4 11 ++ live 4 0 4
+    live-row 0 1 3 ++ live-row 1 3 8 ++ live-row 3 0 13 ++ live-row 1 0 0 ++ live-row 0 4 17 ++ live-row 4 1 10 ++ live-row 1 2 9 ++ live-row 2 3 14 ++ live-row 3 1 1
+    ++ live-row 2 1 6 ++ live-row 1 4 5 ++ live-row 4 2 16 ++ live-row 2 0 15 ++ live-row 0 3 2 ++ live-row 3 2 7 ++ live-row 0 2 12 ++ live-row 2 4 11 ++ live-row 4 0 4
 
 -- four triangles on three vertices
 abbrev doubled : List ℤ
 doubled =
-    live 0 1 3 ++ live 1 2 5 ++ live 2 0 6 ++ live 1 0 0 ++ live 0 2 9 ++ live 2 1 1
-    ++ live 0 2 2 ++ live 2 1 11 ++ live 1 0 10 ++ live 2 0 4 ++ live 0 1 8 ++ live 1 2 7
+    live-row 0 1 3 ++ live-row 1 2 5 ++ live-row 2 0 6 ++ live-row 1 0 0 ++ live-row 0 2 9 ++ live-row 2 1 1
+    ++ live-row 0 2 2 ++ live-row 2 1 11 ++ live-row 1 0 10 ++ live-row 2 0 4 ++ live-row 0 1 8 ++ live-row 1 2 7
 
 abbrev gone3 : List ℤ
-gone3 = dead ++ dead ++ dead
+gone3 = dead-row ++ dead-row ++ dead-row
 
 abbrev case : ℕ → ℕ → List ℤ → List ℕ → ℤ → Tolerance → Said → List ℤ → List ℕ → Case
 case h v r p e t s ra pa = record { halfedges = h; vertices = v; rows = r; positions = p; edge = e; short = t; says = s; rows-after = ra; positions-after = pa }
@@ -89,7 +89,7 @@ cases =
     ∷ case 18 5 bipyramid (five-places ++ at 1) (pos 0) (by-tol (pos 2)) no-room bipyramid (five-places ++ at 0)
     -- no loop: a tetrahedron is left
     ∷ case 18 5 bipyramid five-places (pos 1) (by-tol (pos 3)) (done (whole (pos 5) ∷ []))
-    (gone3 ++ live 3 0 13 ++ live 0 4 17 ++ live 4 3 10 ++ gone3 ++ live 2 3 14 ++ live 3 4 5 ++ live 4 2 16 ++ live 2 0 15 ++ live 0 3 3 ++ live 3 2 9 ++ live 0 2 12 ++ live 2 4 11 ++ live 4 0 4)
+    (gone3 ++ live-row 3 0 13 ++ live-row 0 4 17 ++ live-row 4 3 10 ++ gone3 ++ live-row 2 3 14 ++ live-row 3 4 5 ++ live-row 4 2 16 ++ live-row 2 0 15 ++ live-row 0 3 3 ++ live-row 3 2 9 ++ live-row 0 2 12 ++ live-row 2 4 11 ++ live-row 4 0 4)
     (at 0x3ff0000000000000 ++ lost ++ drop 6 five-places)
     -- a walk that never ends: the two vertex rows that were filled read zero
     ∷ case 12 3 doubled (three-places ++ at 1 ++ at 1) (pos 2) (by-tol (pos 3)) stopped doubled (three-places ++ at 0 ++ at 0)

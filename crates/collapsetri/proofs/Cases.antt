@@ -8,9 +8,9 @@ use Rattle.numbers.specs.Next.{next}
 use Rattle.rows.specs.Halfedges.{column, set-column}
 use Rattle.net.specs.Counts.{is-shaped, triangle-capacity-over, vertex-capacity-over, property-capacity-over}
 use Rattle.soundness.specs.Check.{checkNet}
-use Rattle.rowtests.specs.Order.{live as is-live, in-order, first-failing}
+use Rattle.rowtests.specs.Order.{is-live, in-order, first-failing}
 use Rattle.pairing.specs.Pairing.{paired}
-use Rattle.example.specs.Example.{live, dead as gone, P-rows, P-positions, counts, bare}
+use Rattle.example.specs.Example.{row-with-prop, live-row, dead-row, P-rows, P-positions, counts, bare}
 use Rattle.triangles.specs.Triangles.{emptied, collapsed, collapse}
 use Rattle.collapsetri.specs.CollapseTri.{collapseNamed, collapseTri}
 
@@ -29,23 +29,23 @@ abbrev prop : ℕ → List ℤ
 prop p = negsuc 0 ∷ negsuc 0 ∷ negsuc 0 ∷ pos p ∷ []
 
 abbrev P-props : List ℤ
-P-props = (pos 0 ∷ pos 1 ∷ pos 3 ∷ pos 7 ∷ []) ++ (pos 1 ∷ pos 2 ∷ pos 5 ∷ pos 8 ∷ []) ++ (pos 2 ∷ pos 0 ∷ pos 4 ∷ pos 9 ∷ []) ++ live 1 0 0 ++ live 0 2 2 ++ live 2 1 1
+P-props = row-with-prop (pos 0) (pos 1) (pos 3) (pos 7) ++ row-with-prop (pos 1) (pos 2) (pos 5) (pos 8) ++ row-with-prop (pos 2) (pos 0) (pos 4) (pos 9) ++ live-row 1 0 0 ++ live-row 0 2 2 ++ live-row 2 1 1
 
 abbrev half-dead : List ℤ
-half-dead = gone ++ gone ++ gone ++ live 0 1 6 ++ live 1 2 8 ++ live 2 0 7 ++ live 1 0 3 ++ live 0 2 5 ++ live 2 1 4
+half-dead = dead-row ++ dead-row ++ dead-row ++ live-row 0 1 6 ++ live-row 1 2 8 ++ live-row 2 0 7 ++ live-row 1 0 3 ++ live-row 0 2 5 ++ live-row 2 1 4
 
 abbrev pub cases : List Case
 cases =
     -- at 0 the partners 5 and 4 of rows 1 and 2 are paired; row 3 keeps its pair; at 1 those of rows 2 and 0; props are kept
-    case 6 P-rows (pos 0) (done []) (gone ++ gone ++ gone ++ live 1 0 0 ++ live 0 2 5 ++ live 2 1 4)
-    ∷ case 6 P-rows (pos 1) (done []) (gone ++ gone ++ gone ++ live 1 0 4 ++ live 0 2 3 ++ live 2 1 1)
-    ∷ case 6 P-props (pos 0) (done []) (prop 7 ++ prop 8 ++ prop 9 ++ live 1 0 0 ++ live 0 2 5 ++ live 2 1 4)
+    case 6 P-rows (pos 0) (done []) (dead-row ++ dead-row ++ dead-row ++ live-row 1 0 0 ++ live-row 0 2 5 ++ live-row 2 1 4)
+    ∷ case 6 P-rows (pos 1) (done []) (dead-row ++ dead-row ++ dead-row ++ live-row 1 0 4 ++ live-row 0 2 3 ++ live-row 2 1 1)
+    ∷ case 6 P-props (pos 0) (done []) (prop 7 ++ prop 8 ++ prop 9 ++ live-row 1 0 0 ++ live-row 0 2 5 ++ live-row 2 1 4)
     -- a number beyond the rows in use, and below 0; a dead half-edge; a row out of order; a shape
     ∷ case 6 P-rows (pos 6) bad-number P-rows
     ∷ case 6 P-rows (negsuc 0) bad-number P-rows
     ∷ case 9 half-dead (pos 2) dead half-dead
-    ∷ case 9 (half-dead ++ gone) (pos 9) bad-number (half-dead ++ gone)
-    ∷ case 6 (live 0 1 3 ++ live 1 2 5 ++ live 2 0 6 ++ live 1 0 0 ++ live 0 2 2 ++ live 2 1 1) (pos 6) (unsound 2) (live 0 1 3 ++ live 1 2 5 ++ live 2 0 6 ++ live 1 0 0 ++ live 0 2 2 ++ live 2 1 1)
+    ∷ case 9 (half-dead ++ dead-row) (pos 9) bad-number (half-dead ++ dead-row)
+    ∷ case 6 (live-row 0 1 3 ++ live-row 1 2 5 ++ live-row 2 0 6 ++ live-row 1 0 0 ++ live-row 0 2 2 ++ live-row 2 1 1) (pos 6) (unsound 2) (live-row 0 1 3 ++ live-row 1 2 5 ++ live-row 2 0 6 ++ live-row 1 0 0 ++ live-row 0 2 2 ++ live-row 2 1 1)
     ∷ case 5 P-rows (pos 6) shape P-rows
     ∷ []
 

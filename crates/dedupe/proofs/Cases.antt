@@ -13,7 +13,7 @@ use Rattle.steps.specs.declared.How.{How}
 use Rattle.steps.specs.Steps.{middle, running, begin, Going, NoRoom, Stopped}
 use Rattle.walks.specs.Walk.{onward, moved, walk, update}
 use Rattle.loops.specs.Loops.{append}
-use Rattle.example.specs.Example.{row, live, dead as gone, P-rows}
+use Rattle.example.specs.Example.{row, live-row, dead-row, P-rows}
 use Rattle.searches.specs.Seek.{seek}
 use Rattle.growth.specs.declared.Limits.{Limits}
 use Rattle.growth.specs.Growth.{Growing, growing, add, join, face, beside, relabel, copy-of, copy-round, settled}
@@ -51,7 +51,7 @@ pillows =
     ++ full 1 0 0 106 ++ full 0 3 11 107 ++ full 3 1 10 108 ++ full 0 1 3 109 ++ full 1 3 8 110 ++ full 3 0 7 111
 
 abbrev free : List ℤ
-free = gone ++ gone ++ gone
+free = dead-row ++ dead-row ++ dead-row
 
 -- row 5 and row 8 have the new triangles beside them
 abbrev deduped-9 : List ℤ
@@ -119,7 +119,7 @@ two-left v how rows positions = growing (middle rows positions (running v how)) 
 
 -- the partner of row 1 isn't there
 abbrev lost : List ℤ
-lost = live 0 1 3 ++ row (pos 1) (pos 2) (negsuc 0) ++ live 2 0 4 ++ live 1 0 0 ++ live 0 2 2 ++ live 2 1 1
+lost = live-row 0 1 3 ++ row (pos 1) (pos 2) (negsuc 0) ++ live-row 2 0 4 ++ live-row 1 0 0 ++ live-row 0 2 2 ++ live-row 2 1 1
 
 abbrev pub cases : List Case
 cases =
@@ -130,7 +130,7 @@ cases =
     ∷ at-9 12 6 (growing (middle (pillows ++ free ++ free) (four ++ at 0 ++ at 1) (running 5 NoRoom)) 12 (faces ++ of-face 7 ++ of-face 7) (origins ++ same-face 7 ++ same-face 7))
     ∷ at-9 15 6 (growing (middle (pillows ++ zeros ++ free) (four ++ at 0 ++ at 1) (running 5 NoRoom)) 15 (faces ++ of-face 0 ++ of-face 7) (origins ++ same-face 0 ++ same-face 7))
     -- back round: the end is copied, then the start's fan gets a copy of the END too; with no room for it; and for neither
-    ∷ at-0 P-rows 5 (two-left 5 Going (live 4 3 3 ++ live 3 2 5 ++ live 2 4 4 ++ live 3 4 0 ++ live 4 2 2 ++ live 2 3 1) (three ++ at 20 ++ at 20))
+    ∷ at-0 P-rows 5 (two-left 5 Going (live-row 4 3 3 ++ live-row 3 2 5 ++ live-row 2 4 4 ++ live-row 3 4 0 ++ live-row 4 2 2 ++ live-row 2 3 1) (three ++ at 20 ++ at 20))
     ∷ at-0 P-rows 4 (two-left 4 NoRoom P-rows (three ++ at 0 ++ at 1))
     ∷ at-0 P-rows 3 (two-left 3 NoRoom P-rows (three ++ at 1 ++ at 1))
     -- a partner that isn't there

@@ -9,16 +9,16 @@ use Rattle.net.specs.Net.{Net, net}
 use Rattle.net.specs.Counts.{with-vertices}
 use Rattle.net.specs.Sound.{Sound}
 use Rattle.steps.specs.Steps.{NoRoom}
-use Rattle.splitting.specs.Split.{Outcome}
-use Rattle.splitting.specs.Told.{IsDone}
-use Rattle.splitkept.specs.Kept.{FreeKept}
+use Rattle.splitting.specs.Split.{SplitOutcome}
+use Rattle.splitting.specs.Told.{SplitDone}
+use Rattle.splitkept.specs.inner.Kept.{FreeKept}
 use Rattle.growth.specs.declared.Limits.{Limits}
 use Rattle.growth.specs.Growth.{Growing}
 use Rattle.settling.specs.Settling.{limits-of, begun}
 use Rattle.rounds.specs.Rounds.{rounds}
 use Rattle.dedupesound.proofs.Sounds.{SoundAfter, limits-same, rounds-sound}
 
-module _ (c : Counts) (n : Net) (work visit : List ℕ) (sound : Sound c n) (o : Outcome) (added steps : ℕ) (d : IsDone c n work visit o added steps) (k : FreeKept c n visit o added steps) where
+module _ (c : Counts) (n : Net) (work visit : List ℕ) (sound : Sound c n) (o : SplitOutcome) (added steps : ℕ) (d : SplitDone c n work visit o added steps) (k : FreeKept c n visit o added steps) where
   abbrev H : ℕ
   H = c .halfedges
 

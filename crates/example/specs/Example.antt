@@ -5,21 +5,24 @@ use lib.IntN.{ℤ, pos, negsuc}
 use Rattle.net.specs.declared.Counts.{Counts}
 use Rattle.net.specs.Net.{Net, net}
 
--- a row with no property row
+-- a row with a property row, or with none
+abbrev pub row-with-prop : ℤ → ℤ → ℤ → ℤ → List ℤ
+row-with-prop start end pair prop = start ∷ end ∷ pair ∷ prop ∷ []
+
 abbrev pub row : ℤ → ℤ → ℤ → List ℤ
-row start end pair = start ∷ end ∷ pair ∷ negsuc 0 ∷ []
+row start end pair = row-with-prop start end pair (negsuc 0)
 
-abbrev pub live : ℕ → ℕ → ℕ → List ℤ
-live start end pair = row (pos start) (pos end) (pos pair)
+abbrev pub live-row : ℕ → ℕ → ℕ → List ℤ
+live-row start end pair = row (pos start) (pos end) (pos pair)
 
-abbrev pub dead : List ℤ
-dead = row (negsuc 0) (negsuc 0) (negsuc 0)
+abbrev pub dead-row : List ℤ
+dead-row = row (negsuc 0) (negsuc 0) (negsuc 0)
 
 abbrev pub P-rows : List ℤ
-P-rows = live 0 1 3 ++ live 1 2 5 ++ live 2 0 4 ++ live 1 0 0 ++ live 0 2 2 ++ live 2 1 1
+P-rows = live-row 0 1 3 ++ live-row 1 2 5 ++ live-row 2 0 4 ++ live-row 1 0 0 ++ live-row 0 2 2 ++ live-row 2 1 1
 
 abbrev pub rows : List ℤ
-rows = P-rows ++ live 0 3 9 ++ live 3 4 11 ++ live 4 0 10 ++ live 3 0 6 ++ live 0 4 8 ++ live 4 3 7
+rows = P-rows ++ live-row 0 3 9 ++ live-row 3 4 11 ++ live-row 4 0 10 ++ live-row 3 0 6 ++ live-row 0 4 8 ++ live-row 4 3 7
 
 abbrev pub P-positions : List ℕ
 P-positions =

@@ -13,7 +13,6 @@ ghost use Rattle.explain.specs.Explain.{Three, explainSaid, triangle-cla
 use net::Counts;
 use numbers::Halfedge;
 use numbers::NamedHalfedge;
-use rows::corners;
 
 pub mod answer;
 
@@ -44,13 +43,13 @@ fn points_back(rows: &[i32], halfedges: usize, p: Halfedge, h: Halfedge) -> bool
 }
 
 // The three rows start at different vertices.
-fn are_apart(rows: &[i32], h: usize, j: usize, k: usize) -> bool
-    requires { ⌜ Three (now rows) h j k ⌝ }
-    ensures { λ r. ⌜ r ≡ apart3 (now (rows .entry)) h j k ⌝ }
+fn are_apart(rows: &[i32], h: Halfedge, j: Halfedge, k: Halfedge) -> bool
+    requires { ⌜ Three (now rows) (halfedgeNumber h) (halfedgeNumber j) (halfedgeNumber k) ⌝ }
+    ensures { λ r. ⌜ r ≡ apart3 (now (rows .entry)) (halfedgeNumber h) (halfedgeNumber j) (halfedgeNumber k) ⌝ }
 {
-    !corners::same_start(rows, h, j)
-        & !corners::same_start(rows, j, k)
-        & !corners::same_start(rows, k, h)
+    !halfedges::same_start(rows, h, j)
+        & !halfedges::same_start(rows, j, k)
+        & !halfedges::same_start(rows, k, h)
 }
 
 // Clauses 4 to 7, of h with its partner p; j and k are the other half-edges of its triangle.
@@ -58,19 +57,19 @@ fn triangle_clause(rows: &[i32], h: Halfedge, j: Halfedge, k: Halfedge, p: Halfe
     requires { ⌜ ((halfedgeNumber h < 2 ^ 31) × (halfedgeNumber p < lent-halfedges (now rows))) × Three (now rows) (halfedgeNumber h) (halfedgeNumber j) (halfedgeNumber k) ⌝ }
     ensures { λ r. ⌜ explainSaid r ≡ triangle-clause (now (rows .entry)) (halfedgeNumber h) (halfedgeNumber j) (halfedgeNumber k) (halfedgeNumber p) ⌝ }
 {
-    if !corners::paired(rows, j.number()) {
+    if !halfedges::is_paired(rows, j) {
         return ExplainRow::Unpaired(j);
     }
-    if !corners::paired(rows, k.number()) {
+    if !halfedges::is_paired(rows, k) {
         return ExplainRow::Unpaired(k);
     }
-    if !corners::joined(rows, h.number(), j.number()) {
+    if !halfedges::is_joined(rows, h, j) {
         return ExplainRow::NotJoined(j);
     }
-    if !corners::mirrored(rows, h.number(), rows, h, p) {
+    if !halfedges::is_mirrored(rows, h, p) {
         return ExplainRow::NotMirrored(p);
     }
-    if are_apart(rows, h.number(), j.number(), k.number()) {
+    if are_apart(rows, h, j, k) {
         return ExplainRow::InOrder;
     }
     ExplainRow::StartsAlike
@@ -92,7 +91,7 @@ fn partner_clause(
     if !points_back(rows, halfedges, p, h) {
         return ExplainRow::NotBack(p);
     }
-    if !corners::within(rows, h.number(), vertices) {
+    if !halfedges::is_within(rows, h, vertices) {
         return ExplainRow::NoVertex;
     }
     triangle_clause(rows, h, j, k, p)
@@ -110,9 +109,9 @@ fn row_clause(
     requires { ⌜ (halfedgeNumber h < halfedges) × (InUse halfedges (now rows) × Three (now rows) (halfedgeNumber h) (halfedgeNumber j) (halfedgeNumber k)) ⌝ }
     ensures { λ r. ⌜ explainSaid r ≡ row-clause halfedges vertices (now (rows .entry)) (halfedgeNumber h) (halfedgeNumber j) (halfedgeNumber k) ⌝ }
 {
-    let this = corners::empty(rows, h.number());
-    let next = corners::empty(rows, j.number());
-    if this & next & corners::empty(rows, k.number()) {
+    let this = halfedges::is_empty(rows, h);
+    let next = halfedges::is_empty(rows, j);
+    if this & next & halfedges::is_empty(rows, k) {
         return ExplainRow::InOrder;
     }
     if this {

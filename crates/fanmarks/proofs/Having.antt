@@ -12,21 +12,21 @@ use lib.ListN.{getD}
 use Rattle.laws.proofs.Tests.{by-test, not-both, is-false, or-right}
 use Rattle.ownertests.specs.declared.Eligible.{Eligible}
 use Rattle.ownertests.specs.Tests.{all-below, points-back, met-or-back, has-owners}
-use Rattle.ownertests.specs.Needs.{InUse, Back}
-use Rattle.fanmarks.specs.Marks.{Left, Scanned, Owned}
+use Rattle.ownertests.specs.inner.Needs.{InUse, Back}
+use Rattle.fanmarks.specs.inner.Marks.{Left, Scanned, Owned}
 use Rattle.ownertests.proofs.Below.{all-yes, all-true, all-stop, all-no}
 use Rattle.ownertests.proofs.Points.{back-yes}
 
 module _ (e : Eligible) (H : ℕ) (rows : List ℤ) (U : InUse H rows) {work work' : List ℕ} {r : Bool} (L : Left H rows work work' r) (S : Back H rows → Scanned e H rows work' r) where
   astray : all-below (points-back H rows) H ≡ false → Owned e H rows work work' false
   unfolding has-owners
-  astray t = record { told = rw t; kept = L .kept; beyond = L .beyond; owners-are = λ q. not-both false q refl }
+  astray t = record { whether = rw t; kept = L .kept; beyond = L .beyond; owners-are = λ q. not-both false q refl }
 
   pub no-owners-met : r ≡ false → Owned e H rows work work' false
   unfolding has-owners
   no-owners-met q =
       by-test (all-below (points-back H rows) H)
-      (λ a. record { told = rw (a, ← S (back-yes H rows U a) .told, q); kept = L .kept; beyond = L .beyond; owners-are = λ q. not-both false q refl })
+      (λ a. record { whether = rw (a, ← S (back-yes H rows U a) .whether, q); kept = L .kept; beyond = L .beyond; owners-are = λ q. not-both false q refl })
       astray
 
   module _ (z : (g : ℕ) → g < H → getD work g 0 ≡ 0) (q : r ≡ true) where
@@ -41,7 +41,7 @@ module _ (e : Eligible) (H : ℕ) (rows : List ℤ) (U : InUse H rows) {work wor
     owners-by true y =
         let a = all-true (points-back H rows) H (each-back (sym y)) in
         let s = S (back-yes H rows U a) in
-        record { told = rw (a, ← s .told, q); kept = L .kept; beyond = L .beyond; owners-are = λ x. s .owners-are q }
+        record { whether = rw (a, ← s .whether, q); kept = L .kept; beyond = L .beyond; owners-are = λ x. s .owners-are q }
     owners-by false y = astray (out (all-no (met-or-back H rows work') H (sym y)))
       where
         out : (k : ℕ) × (k < H) × (met-or-back H rows work' k ≡ false) → all-below (points-back H rows) H ≡ false

@@ -11,7 +11,7 @@ use lib.ListN.{length, getD, set, drop, length-set}
 use lib.Seq.{getD-set-other, drop-set-lt}
 use Rattle.laws.proofs.Tests.{not-both}
 use Rattle.ownertests.specs.Tests.{points-back}
-use Rattle.fanmarks.specs.Marks.{Left}
+use Rattle.fanmarks.specs.inner.Marks.{Left}
 
 -- the walk from i is at c: what it has marked points back, i too, but for c, which is not yet tested
 pub record Leaving (H : ℕ) (rows : List ℤ) (i : ℕ) (work₀ work : List ℕ) (c : ℕ) : Type 0 where

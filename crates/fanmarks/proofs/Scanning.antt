@@ -16,8 +16,8 @@ use Rattle.turning.specs.Fan.{Reach}
 use Rattle.turning.proofs.Orbit.{live-reach, reach-sym, reach-trans, reach-refl, reach-dec}
 use Rattle.ownertests.specs.declared.Eligible.{Eligible}
 use Rattle.ownertests.specs.Tests.{eligible, closes-if, owns}
-use Rattle.ownertests.specs.Needs.{Back}
-use Rattle.fanmarks.specs.Marks.{Marked, Stepped, Scanned}
+use Rattle.ownertests.specs.inner.Needs.{Back}
+use Rattle.fanmarks.specs.inner.Marks.{FanMarked, Stepped, Scanned}
 use Rattle.ownertests.proofs.Below.{all-true, all-stop}
 use Rattle.ownertests.proofs.Fan.{Closed, closes-yes, closes-true, fans}
 use Rattle.ownertests.proofs.Owns.{Leads, owns-eligible, owns-true, owns-leads}
@@ -87,7 +87,7 @@ module _ (e : Eligible) (H : ℕ) (rows : List ℤ) (B : Back H rows) {work : Li
       | no m ↦ absurd (new h (omega arith) q (reach-sym (fans H rows B) c r))
     ]
 
-    walked : Marked H rows i work work' true → Scanning e H rows work' (i + 1)
+    walked : FanMarked H rows i work work' true → Scanning e H rows work' (i + 1)
     walked M = record {
       closed = later {P = λ h. eligible e rows h ≡ true → Closed H rows h} (S .closed) (λ q. c);
       marked = λ h g. later {P = λ h. eligible e rows h ≡ true → Reach (turn rows) h g → getD work' g 0 ≢ 0} (λ h l q r y. S .marked h g l q r (sym (M .others refl g (apart c h g l q r)) ∙ y)) (λ q r. mine g r) h;
@@ -106,7 +106,7 @@ module _ (e : Eligible) (H : ℕ) (rows : List ℤ) (B : Back H rows) {work : Li
     }
       where
         c : Closed H rows i
-        c = closes-yes H rows B i b (sym (M .told))
+        c = closes-yes H rows B i b (sym (M .whether))
 
         mine : (g : ℕ) → Reach (turn rows) i g → getD work' g 0 ≢ 0
         mine g r = elim (ℕ-discrete g i) [
@@ -125,7 +125,7 @@ module _ (e : Eligible) (H : ℕ) (rows : List ℤ) (B : Back H rows) {work : Li
   stopped : (work' : List ℕ) → Stepped e H rows i work work' false → Scanned e H rows work' false
   stopped work' (inl s) = not-both false (s .2) refl
   stopped work' (inr s) = record {
-    told = sym (all-stop (closes-if e H rows) H i b (rw (s .1, ← s .2 .told)));
+    whether = sym (all-stop (closes-if e H rows) H i b (rw (s .1, ← s .2 .whether)));
     owners-are = λ q. not-both false q refl;
   }
 
@@ -134,7 +134,7 @@ module _ (e : Eligible) (H : ℕ) (rows : List ℤ) (B : Back H rows) {work : Li
 
 pub scanning-done : (e : Eligible) (H : ℕ) (rows : List ℤ) (B : Back H rows) {work : List ℕ} {i : ℕ} → Scanning e H rows work i → H ≤ i → Scanned e H rows work true
 scanning-done e H rows B {work} {i} S m = record {
-  told = sym (all-true (closes-if e H rows) H each);
+  whether = sym (all-true (closes-if e H rows) H each);
   owners-are = λ q g l. by-test (owns e H rows g)
       (λ t. rw t (eq-eqb (getD work g 0) 2 (S .owned g (omega arith) t)))
       (λ t. rw t (ne-eqb (getD work g 0) 2 (λ y. not-both (owns e H rows g) (S .owner g l y .1) t)));

@@ -16,8 +16,8 @@ use Rattle.net.specs.Sound.{Paired, turn}
 use Rattle.turning.specs.Fan.{iter, Reach}
 use Rattle.turning.proofs.Orbit.{Period, period, soon}
 use Rattle.ownertests.specs.Tests.{closes, turns-to}
-use Rattle.ownertests.specs.Needs.{Back}
-use Rattle.fanmarks.specs.Marks.{Left, Marked}
+use Rattle.ownertests.specs.inner.Needs.{Back}
+use Rattle.fanmarks.specs.inner.Marks.{Left, FanMarked}
 use Rattle.fanmarks.proofs.Leaving.{Leaving, leaving-begins, leaving-stops, leaving-on, leaving-home}
 use Rattle.ownertests.proofs.Points.{Turned, points-true, turns-no}
 use Rattle.ownertests.proofs.Fan.{iter-in, closed-by, closes-yes, closes-true, fans}
@@ -97,18 +97,18 @@ module _ (H : ℕ) (rows : List ℤ) (B : Back H rows) (i : ℕ) (l : i < H) {wo
             | no z ↦ subst (λ x. getD work x 0 ≡ 1) q (W .met (s .0) (omega arith) (omega arith))
           ]
 
-      pub walking-home : Marked H rows i work₀ (set work d 2) true
+      pub walking-home : FanMarked H rows i work₀ (set work d 2) true
       walking-home = rw h (record {
-        told = sym (closes-true H rows B i (record { in-use = l; paired = all-paired }));
+        whether = sym (closes-true H rows B i (record { in-use = l; paired = all-paired }));
         home = λ t. getD-set-same work i 2 0 (omega arith);
         fan = λ t g n r. getD-set-other work i g 2 0 n ∙ fan-marked g n r;
         others = λ t g q. getD-set-other work i g 2 0 (λ z. q (0, sym z)) ∙ W .others g (λ j a m z. q (j, z));
       })
 
   -- ---- no turn to make, or H turns and not home, which cannot be
-  pub walking-open : turns-to H rows c ≡ nothing → Marked H rows i work₀ work false
+  pub walking-open : turns-to H rows c ≡ nothing → FanMarked H rows i work₀ work false
   walking-open e = record {
-    told =
+    whether =
         by-test (closes H rows i)
         (λ t.
         let q : Paired rows c = subst (Paired rows) (sym (W .here)) (closes-yes H rows B i l t .paired k) in
@@ -128,7 +128,7 @@ module _ (H : ℕ) (rows : List ℤ) (B : Back H rows) (i : ℕ) (l : i < H) {wo
 
 -- ---- the loop: what holds whatever the pairs are, and what holds where they point back, with `left` turns to go
 abbrev Walked : (H : ℕ) → List ℤ → ℕ → List ℕ → List ℕ → Bool → Type 0
-Walked H rows i work work' r = Left H rows work work' r × (Back H rows → Marked H rows i work work' r)
+Walked H rows i work work' r = Left H rows work work' r × (Back H rows → FanMarked H rows i work work' r)
 
 pub record Walk (H : ℕ) (rows : List ℤ) (i : ℕ) (work₀ work : List ℕ) (c left : ℕ) : Type 0 where
   pub upto : left ≤ H

@@ -7,8 +7,8 @@ ghost use lib.ListN.{length, getD};
 ghost use Rattle.numbers.specs.Numbers.{halfedgeNumber};
 ghost use Rattle.rows.specs.Halfedges.{lent-halfedges};
 ghost use Rattle.ownertests.specs.Tests.{all-below, met-or-back};
-ghost use Rattle.ownertests.specs.Needs.{InUse, Back};
-ghost use Rattle.fanmarks.specs.Marks.{Left, Marked, Stepped, Scanned, Owned};
+ghost use Rattle.ownertests.specs.inner.Needs.{InUse, Back};
+ghost use Rattle.fanmarks.specs.inner.Marks.{Left, FanMarked, Stepped, Scanned, Owned};
 use numbers::Halfedge;
 use numbers::NamedHalfedge;
 use ownertests::Eligible;
@@ -21,7 +21,7 @@ pub const OWNER: u8 = 2;
 fn mark_fan(rows: &[i32], work: &mut [u8], halfedges: usize, i: Halfedge) -> bool
     requires { ⌜ InUse halfedges (now rows) × ((halfedgeNumber i < halfedges) × (halfedges ≤ length (now work))) ⌝ }
     ensures { λ r. ⌜ Left halfedges (now (rows .entry)) (now (work .entry)) (now (work .exit)) r
-        × (Back halfedges (now (rows .entry)) → Marked halfedges (now (rows .entry)) (halfedgeNumber i) (now (work .entry)) (now (work .exit)) r) ⌝ }
+        × (Back halfedges (now (rows .entry)) → FanMarked halfedges (now (rows .entry)) (halfedgeNumber i) (now (work .entry)) (now (work .exit)) r) ⌝ }
 {
     let home = i.number();
     let mut c = i;

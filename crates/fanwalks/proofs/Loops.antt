@@ -13,10 +13,10 @@ use Rattle.rows.specs.Halfedges.{pairOf}
 use Rattle.net.specs.Sound.{turn, Live}
 use Rattle.turning.specs.Walk.{walk, walk-end}
 use Rattle.turning.proofs.Walk.{Left, walk-step, walk-end-step, walk-none, walk-end-none, walk-some}
-use Rattle.splitting.specs.Needs.{Round}
+use Rattle.splitting.specs.inner.Needs.{Round}
 use Rattle.splitting.specs.Steps.{relabel, relabel-walk}
-use Rattle.ordering.specs.Order.{see, place, told, entry-of, order-walk}
-use Rattle.ordering.specs.Needs.{FanOrder}
+use Rattle.ordering.specs.inner.Order.{see, place, last-entry, entry-of, order-walk}
+use Rattle.ordering.specs.inner.Needs.{FanOrder}
 use Rattle.ordering.proofs.Walks.{entry-home, entry-elsewhere}
 use Rattle.splitting.proofs.Net.{same-turn}
 use Rattle.splitting.proofs.Rows.{length-relabel, relabel-pair}
@@ -74,7 +74,7 @@ module _ {rows : List ℤ} {H i : ℕ} {first : Bool} {steps : ℕ} {work₀ : L
               away = inl n;
             }
 
-        pub ordering-home : c′ ≡ i → (work′ : List ℕ) → work′ ≡ place k (told first c′) (see c′ work)
+        pub ordering-home : c′ ≡ i → (work′ : List ℕ) → work′ ≡ place k (last-entry first c′) (see c′ work)
             → (work′ ≡ order-walk first i steps (walk (turn rows) H i i) work₀) × (k + 1 ≡ steps + length (walk (turn rows) H i i))
         unfolding order-walk
         ordering-home n work′ q =

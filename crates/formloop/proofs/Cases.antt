@@ -9,11 +9,11 @@ use Rattle.numbers.specs.Next.{next}
 use Rattle.rows.specs.Halfedges.{column, set-column, over-rows}
 use Rattle.rows.specs.Triples.{triple, put-triple, over-triples, zero-triples}
 use Rattle.net.specs.Counts.{is-shaped, triangle-capacity-over, vertex-capacity-over, property-capacity-over}
-use Rattle.rowtests.specs.Order.{live as is-live, in-order, first-failing}
+use Rattle.rowtests.specs.Order.{is-live, in-order, first-failing}
 use Rattle.pairing.specs.Pairing.{paired}
 use Rattle.walks.specs.Walk.{onward, moved, walk, update}
 use Rattle.folds.specs.Folds.{lose, lose-folded, has-pair, joined, join, cleared, clear, take-out, fold-at, fold}
-use Rattle.example.specs.Example.{live, dead as gone, P-rows, counts, bare}
+use Rattle.example.specs.Example.{live-row, dead-row, P-rows, counts, bare}
 use Rattle.loops.specs.Loops.{append, copy, exchange, cross-at, cross, loop-at}
 use Rattle.formloop.specs.FormLoop.{Left, left, formAt, formNamed, formLoop}
 
@@ -53,19 +53,19 @@ n = 0x7FF8000000000000
 -- two edges from 0 to 1, rows 0 and 9: the surface is two pillows that are open there, with corners 2 and 3
 abbrev pillows : List ℤ
 pillows =
-    live 0 1 6 ++ live 1 2 5 ++ live 2 0 4 ++ live 1 0 9 ++ live 0 2 2 ++ live 2 1 1
-    ++ live 1 0 0 ++ live 0 3 11 ++ live 3 1 10 ++ live 0 1 3 ++ live 1 3 8 ++ live 3 0 7
+    live-row 0 1 6 ++ live-row 1 2 5 ++ live-row 2 0 4 ++ live-row 1 0 9 ++ live-row 0 2 2 ++ live-row 2 1 1
+    ++ live-row 1 0 0 ++ live-row 0 3 11 ++ live-row 3 1 10 ++ live-row 0 1 3 ++ live-row 1 3 8 ++ live-row 3 0 7
 
 -- a dead triangle before P's two, and a row of P out of order
 abbrev half-dead : List ℤ
-half-dead = gone ++ gone ++ gone ++ live 0 1 6 ++ live 1 2 8 ++ live 2 0 7 ++ live 1 0 3 ++ live 0 2 5 ++ live 2 1 4
+half-dead = dead-row ++ dead-row ++ dead-row ++ live-row 0 1 6 ++ live-row 1 2 8 ++ live-row 2 0 7 ++ live-row 1 0 3 ++ live-row 0 2 5 ++ live-row 2 1 4
 
 abbrev out-of-order : List ℤ
-out-of-order = live 0 1 3 ++ live 1 2 5 ++ live 2 0 6 ++ live 1 0 0 ++ live 0 2 2 ++ live 2 1 1
+out-of-order = live-row 0 1 3 ++ live-row 1 2 5 ++ live-row 2 0 6 ++ live-row 1 0 0 ++ live-row 0 2 2 ++ live-row 2 1 1
 
 -- the spares at entry and past the checks: what is beyond the rows in use stays
 abbrev gone6 : List ℤ
-gone6 = gone ++ gone ++ gone ++ gone ++ gone ++ gone
+gone6 = dead-row ++ dead-row ++ dead-row ++ dead-row ++ dead-row ++ dead-row
 
 abbrev blank : List ℤ
 blank = gone6 ++ gone6 ++ (pos 8 ∷ [])

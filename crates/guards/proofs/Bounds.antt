@@ -16,7 +16,7 @@ use Rattle.net.specs.declared.Counts.{Counts}
 use Rattle.net.specs.Net.{Net, net}
 use Rattle.net.specs.Counts.{triangle-capacity-over, halfedge-capacity-over, vertex-capacity-over, property-capacity-over, Shaped}
 use Rattle.net.specs.Sound.{Live, Sound}
-use Rattle.splitting.specs.Split.{Outcome, splitPinched}
+use Rattle.splitting.specs.Split.{SplitOutcome, splitPinched}
 use Rattle.splitting.specs.Told.{IsFull}
 use Rattle.splitsound.specs.Demand.{Demand3}
 use Rattle.splitsound.proofs.Told.{demand-3}

@@ -10,7 +10,7 @@ use Rattle.rows.specs.Halfedges.{column, set-column}
 use Rattle.rows.specs.Triples.{triple, put-triple}
 use Rattle.net.specs.Counts.{is-shaped, triangle-capacity-over, vertex-capacity-over, property-capacity-over}
 use Rattle.soundness.specs.Check.{checkNet}
-use Rattle.rowtests.specs.Order.{live as is-live, in-order, first-failing}
+use Rattle.rowtests.specs.Order.{is-live, in-order, first-failing}
 use Rattle.pairing.specs.Pairing.{paired, pairUp}
 use Rattle.steps.specs.Steps.{Middle, begin, Stopped, ended}
 use Rattle.walks.specs.Walk.{onward, moved, walk, update, reaches}
@@ -20,7 +20,7 @@ use Rattle.folds.specs.Folds.{lose, lose-folded, has-pair, joined, join, cleare
 use Rattle.ownertests.specs.declared.Eligible.the-variants as E
 use Rattle.ownertests.specs.Tests.{all-below, those-below, eligible, points-back, closes, owns, has-owners, owners}
 use Rattle.owners.specs.Scan.{scan, orbitOwners}
-use Rattle.example.specs.Example.{live, dead as gone, P-rows, P-positions, counts, bare}
+use Rattle.example.specs.Example.{live-row, dead-row, P-rows, P-positions, counts, bare}
 
 -- six rows in use of twelve, three positions of four
 abbrev four : List ℕ
@@ -28,15 +28,15 @@ four = P-positions ++ (1 ∷ 2 ∷ 3 ∷ [])
 
 -- P whose row 2 has the free row 6 as its partner, which points back and runs the opposite way
 abbrev partner-free : List ℤ
-partner-free = live 0 1 3 ++ live 1 2 5 ++ live 2 0 6 ++ live 1 0 0 ++ live 0 2 2 ++ live 2 1 1 ++ live 0 2 2 ++ gone ++ gone ++ gone ++ gone ++ gone
+partner-free = live-row 0 1 3 ++ live-row 1 2 5 ++ live-row 2 0 6 ++ live-row 1 0 0 ++ live-row 0 2 2 ++ live-row 2 1 1 ++ live-row 0 2 2 ++ dead-row ++ dead-row ++ dead-row ++ dead-row ++ dead-row
 
 -- P at vertices 0, 1 and 3, which is lent and not in use
 abbrev vertex-free : List ℤ
-vertex-free = live 0 1 3 ++ live 1 3 5 ++ live 3 0 4 ++ live 1 0 0 ++ live 0 3 2 ++ live 3 1 1
+vertex-free = live-row 0 1 3 ++ live-row 1 3 5 ++ live-row 3 0 4 ++ live-row 1 0 0 ++ live-row 0 3 2 ++ live-row 3 1 1
 
 -- P, and a copy of it behind the rows in use
 abbrev twice : List ℤ
-twice = P-rows ++ live 0 1 9 ++ live 1 2 11 ++ live 2 0 10 ++ live 1 0 6 ++ live 0 2 8 ++ live 2 1 7
+twice = P-rows ++ live-row 0 1 9 ++ live-row 1 2 11 ++ live-row 2 0 10 ++ live-row 1 0 6 ++ live-row 0 2 8 ++ live-row 2 1 7
 
 abbrev update-twice : ℤ → ℤ → ℤ → Said
 update-twice vertex start end = updateVert (counts 6 3) (bare twice four) vertex start end .0
@@ -66,7 +66,7 @@ pub lost-vertex : (fold 6 0 (begun vertex-free) .halfedges ≡ vertex-free) × (
 unfolding fold fold-at take-out clear cleared join joined has-pair lose-folded lose paired triple put-triple column set-column next
 lost-vertex = (refl, refl, refl)
 
-pub walked-row : update 6 9 1 2 (begun partner-free) ≡ ended Stopped (begun (live 0 1 3 ++ live 1 9 5 ++ live 9 0 6 ++ live 1 0 0 ++ live 0 2 2 ++ live 2 1 1 ++ live 0 2 2 ++ gone ++ gone ++ gone ++ gone ++ gone))
+pub walked-row : update 6 9 1 2 (begun partner-free) ≡ ended Stopped (begun (live-row 0 1 3 ++ live-row 1 9 5 ++ live-row 9 0 6 ++ live-row 1 0 0 ++ live-row 0 2 2 ++ live-row 2 1 1 ++ live-row 0 2 2 ++ dead-row ++ dead-row ++ dead-row ++ dead-row ++ dead-row))
 unfolding update walk onward moved column set-column next
 walked-row = refl
 

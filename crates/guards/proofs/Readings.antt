@@ -12,13 +12,13 @@ use Rattle.floats.specs.declared.Vec2.{Vec2}
 use Rattle.floats.specs.Vectors.{minus2, dot2}
 use Rattle.rows.specs.Halfedges.{column, set-column}
 use Rattle.net.specs.Counts.{is-shaped, triangle-capacity-over, vertex-capacity-over, property-capacity-over}
-use Rattle.rowtests.specs.Order.{live as is-live, in-order, first-failing}
+use Rattle.rowtests.specs.Order.{is-live, in-order, first-failing}
 use Rattle.pairing.specs.Pairing.{paired, pairUp}
 use Rattle.steps.specs.Steps.{begin}
 use Rattle.walks.specs.Walk.{onward, moved, walk, update, reaches}
 use Rattle.triangles.specs.Triangles.{emptied, collapsed, collapse}
 use Rattle.formloop.specs.FormLoop.{formNamed, formLoop}
-use Rattle.example.specs.Example.{live, dead as gone, P-positions, counts, bare}
+use Rattle.example.specs.Example.{live-row, dead-row, P-positions, counts, bare}
 
 -- −2147483648 has a next, −2147483647, which has none: so it has no triangle
 pub least-number : (nextAnswer (negsuc 2147483647) ≡ done (whole (negsuc 2147483646) ∷ [])) × (triAnswer (negsuc 2147483647) ≡ bad-number)
@@ -40,29 +40,29 @@ rounded-once-each = (refl, refl, refl)
 -- three rows, each its own partner: a walk goes from row to row, and comes to the last after as many moves as there are half-edges, less
 -- one. A walk that is given up after one move less does not. (After H−1 moves it has been everywhere, so giving up then cannot be told.)
 abbrev own : List ℤ
-own = live 0 1 0 ++ live 1 2 1 ++ live 2 0 2
+own = live-row 0 1 0 ++ live-row 1 2 1 ++ live-row 2 0 2
 
-pub longest-walk : (reaches 3 2 own 3 0 ≡ true) × (update 3 9 0 2 (begin own [] 0) ≡ begin (live 0 9 0 ++ live 9 9 1 ++ live 9 0 2) [] 0)
+pub longest-walk : (reaches 3 2 own 3 0 ≡ true) × (update 3 9 0 2 (begin own [] 0) ≡ begin (live-row 0 9 0 ++ live-row 9 9 1 ++ live-row 9 0 2) [] 0)
 unfolding reaches update walk onward moved column set-column next
 longest-walk = (refl, refl)
 
 -- a triangle whose second and third rows are each other's partners: they are paired, then emptied with the first. Rows emptied before
 -- they are paired would keep each other. (In a sound net no row of a triangle has another as its partner.)
 abbrev inner : List ℤ
-inner = live 0 1 0 ++ live 1 2 2 ++ live 2 0 1
+inner = live-row 0 1 0 ++ live-row 1 2 2 ++ live-row 2 0 1
 
-pub paired-then-emptied : collapse 3 0 (begin inner [] 0) ≡ begin (gone ++ gone ++ gone) [] 0
+pub paired-then-emptied : collapse 3 0 (begin inner [] 0) ≡ begin (dead-row ++ dead-row ++ dead-row) [] 0
 unfolding collapse collapsed emptied paired column set-column next
 paired-then-emptied = refl
 
 -- pair_up asks for no sound net: it pairs rows of one where every row is out of order
-pub pairs-unsound : pairUp (counts 3 0) (bare own []) (pos 0) (pos 1) ≡ (done [], live 0 1 1 ++ live 1 2 0 ++ live 2 0 2)
+pub pairs-unsound : pairUp (counts 3 0) (bare own []) (pos 0) (pos 1) ≡ (done [], live-row 0 1 1 ++ live-row 1 2 0 ++ live-row 2 0 2)
 unfolding pairUp paired column set-column is-shaped triangle-capacity-over vertex-capacity-over property-capacity-over
 pairs-unsound = refl
 
 -- a dead half-edge and a number that names none: 4 comes before 5, whichever is first
 abbrev half-dead : List ℤ
-half-dead = gone ++ gone ++ gone ++ live 0 1 6 ++ live 1 2 8 ++ live 2 0 7 ++ live 1 0 3 ++ live 0 2 5 ++ live 2 1 4
+half-dead = dead-row ++ dead-row ++ dead-row ++ live-row 0 1 6 ++ live-row 1 2 8 ++ live-row 2 0 7 ++ live-row 1 0 3 ++ live-row 0 2 5 ++ live-row 2 1 4
 
 pub number-before-dead :
     (formLoop (counts 9 3) (bare half-dead P-positions) half-dead P-positions (pos 0) (pos 9) .said ≡ bad-number)

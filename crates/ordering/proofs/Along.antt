@@ -24,12 +24,12 @@ use Rattle.turning.proofs.Count.{count-le}
 use Rattle.turning.proofs.Occ.{count-length}
 use Rattle.turning.proofs.Orbit.{reach-dec}
 use Rattle.turning.proofs.Walk.{walk-once, walk-only, walk-home}
-use Rattle.splitting.specs.Needs.{SoundRows}
+use Rattle.splitting.specs.inner.Needs.{SoundRows}
 use Rattle.splitting.specs.Steps.{relabel-walk, noted, State, state, first-fan, later-fan, split-fan, split-step, split-rows}
 use Rattle.splitting.proofs.Inv.{Done, flag-clear, end-once, end-only}
 use Rattle.splitting.proofs.Net.{T, row-of, same, inV}
 use Rattle.splitting.proofs.Split.{flag-at, mark-at, fan-live, flags-noted, mark-noted, marks-other, Ok, turns-same, live-here, v-in, visits-fit, step-ok, begin-ok}
-use Rattle.ordering.specs.Order.{walked-bit, entry-limit, copy-bit, is-walked, entry, order-walk, Order, order, order-fan, order-row, order-rows, Written, written, copy-named, copy-at, write-order}
+use Rattle.ordering.specs.inner.Order.{walked-bit, entry-limit, copy-bit, is-walked, entry, order-walk, Order, order, order-fan, order-row, order-rows, Written, written, copy-named, copy-at, write-order}
 use Rattle.ordering.proofs.Steps.{step-flagged, step-unnamed, step-fan, order-walked, order-unwalked}
 use Rattle.ordering.proofs.Words.{bit}
 use Rattle.ordering.proofs.Walks.{Below, length-ordered, ordered-out, ordered-in, ordered-behind, ordered-beyond, ordered-all}

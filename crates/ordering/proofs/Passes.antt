@@ -21,14 +21,14 @@ use Rattle.net.specs.Sound.{turn}
 use Rattle.net.proofs.Shape.{capacity-lent, capacity-same}
 use Rattle.turning.specs.Walk.{walk}
 use Rattle.turning.proofs.Walk.{walk-home}
-use Rattle.splitting.specs.Needs.{SoundRows}
+use Rattle.splitting.specs.inner.Needs.{SoundRows}
 use Rattle.splitting.specs.Steps.{relabel, relabel-walk, State, state, split-rows}
 use Rattle.splitting.proofs.Inv.{flag-clear}
 use Rattle.splitting.proofs.Net.{T, same, inV, round-of, live-there, round-kept}
 use Rattle.splitting.proofs.Rows.{length-relabel, relabel-pair}
 use Rattle.splitting.proofs.Split.{live-here}
-use Rattle.ordering.specs.Order.{copy-bit, is-walked, entry, order, order-row, order-rows, Written, written, copy-named, copy-at, listed, write-entry, write-order, list-order}
-use Rattle.ordering.specs.Needs.{FanOrder, RowOrder, EntryNeeds, OrderNeeds}
+use Rattle.ordering.specs.inner.Order.{copy-bit, is-walked, entry, order, order-row, order-rows, Written, written, copy-named, copy-at, listed, write-entry, write-order, list-order}
+use Rattle.ordering.specs.inner.Needs.{FanOrder, RowOrder, EntryNeeds, OrderNeeds}
 use Rattle.ordering.proofs.Along.{Along, along, start-kept, unwalked, fits}
 
 -- ---- the first pass, before half-edge i

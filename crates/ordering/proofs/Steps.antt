@@ -12,7 +12,7 @@ use Rattle.rows.specs.Halfedges.{startOf}
 use Rattle.net.specs.Sound.{turn}
 use Rattle.turning.specs.Walk.{walk}
 use Rattle.splitting.specs.Steps.{State, split-fan, split-row, split-step}
-use Rattle.ordering.specs.Order.{is-walked, Order, order-named, order-row}
+use Rattle.ordering.specs.inner.Order.{is-walked, Order, order-named, order-row}
 
 module _ (H N i : ℕ) (s : State) where
   abbrev fan : List ℕ

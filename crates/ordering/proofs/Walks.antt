@@ -10,14 +10,14 @@ use lib.ListN.{length, getD, drop, length-set}
 use lib.Seq.{drop-set-lt}
 use Rattle.turning.specs.Fan.{occ}
 use Rattle.turning.proofs.Occ.{occ-head, occ-tail, occ-out, occ-in}
-use Rattle.ordering.specs.Order.{walked-bit, entry-limit, copy-bit, see, place, entry, told, at-home, entry-of, order-walk}
+use Rattle.ordering.specs.inner.Order.{walked-bit, entry-limit, copy-bit, see, place, entry, last-entry, at-home, entry-of, order-walk}
 use Rattle.ordering.proofs.Words.{bit, see-bit, see-entry, see-other, place-bit, place-entry, place-other}
 
 -- ---- what is put into the order
-pub entry-home : (first : Bool) (home c : ℕ) → c ≡ home → entry-of first home c ≡ told first c
+pub entry-home : (first : Bool) (home c : ℕ) → c ≡ home → entry-of first home c ≡ last-entry first c
 entry-home first home c e = go (ℕ-discrete c home)
   where
-    go : (d : Dec (c ≡ home)) → at-home first c d ≡ told first c
+    go : (d : Dec (c ≡ home)) → at-home first c d ≡ last-entry first c
     go (yes p) = refl
     go (no q) = absurd (q e)
 
@@ -28,26 +28,26 @@ entry-elsewhere first home c n = go (ℕ-discrete c home)
     go (yes p) = absurd (n p)
     go (no q) = refl
 
-pub told-small : (first : Bool) (c : ℕ) → c < copy-bit → told first c < entry-limit
-told-small true c b = omega arith
-told-small false c b = omega arith
+pub last-entry-small : (first : Bool) (c : ℕ) → c < copy-bit → last-entry first c < entry-limit
+last-entry-small true c b = omega arith
+last-entry-small false c b = omega arith
 
-told-of : (first : Bool) (c : ℕ) → c < copy-bit → told first c % copy-bit ≡ c
-told-of true c b = omega arith
-told-of false c b = omega arith
+last-entry-of : (first : Bool) (c : ℕ) → c < copy-bit → last-entry first c % copy-bit ≡ c
+last-entry-of true c b = omega arith
+last-entry-of false c b = omega arith
 
 pub entry-small : (first : Bool) (home c : ℕ) → c < copy-bit → entry-of first home c < entry-limit
 entry-small first home c b = go (ℕ-discrete c home)
   where
     go : (d : Dec (c ≡ home)) → at-home first c d < entry-limit
-    go (yes p) = told-small first c b
+    go (yes p) = last-entry-small first c b
     go (no q) = omega arith
 
 pub entry-tells : (first : Bool) (home c : ℕ) → c < copy-bit → entry-of first home c % copy-bit ≡ c
 entry-tells first home c b = go (ℕ-discrete c home)
   where
     go : (d : Dec (c ≡ home)) → at-home first c d % copy-bit ≡ c
-    go (yes p) = told-of first c b
+    go (yes p) = last-entry-of first c b
     go (no q) = omega arith
 
 -- the half-edges of a list are below n

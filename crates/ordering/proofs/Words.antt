@@ -7,7 +7,7 @@ use native.Mathlib.Omega.{arith}
 use native.Mathlib.Decide.{ℕ-discrete}
 use lib.ListN.{length, getD}
 use lib.Seq.{getD-set-same, getD-set-other}
-use Rattle.ordering.specs.Order.{walked-bit, entry-limit, see, place, entry}
+use Rattle.ordering.specs.inner.Order.{walked-bit, entry-limit, see, place, entry}
 
 -- the walked bit of half-edge h, as a number
 abbrev pub bit : List ℕ → ℕ → ℕ

@@ -12,7 +12,7 @@ use lib.ListN.{length, set}
 use lib.Seq.{sets}
 use Rattle.turning.specs.Walk.{walk, cut, walk-end, stop}
 use Rattle.turning.proofs.Occ.{occ-head}
-use Rattle.ordering.specs.Order.{copy-bit, entry, told, entry-of, order-walk, Written, written, copy-at, listed, write-entry, write-order}
+use Rattle.ordering.specs.inner.Order.{copy-bit, entry, last-entry, entry-of, order-walk, Written, written, copy-at, listed, write-entry, write-order}
 use Rattle.ordering.proofs.Walks.{entry-home, entry-elsewhere, Below, below-tail, put-one, length-one, one-entry, one-entry-other}
 
 module _ (H N : ℕ) where
@@ -53,7 +53,7 @@ module _ (H N : ℕ) where
   unfolding write-entry
   plain k c s b = let e : c % copy-bit ≡ c = omega arith in rw (lt-leb copy-bit c b, e)
 
-  copied : (k c : ℕ) (s : Written) → c < copy-bit → write-entry H N k (told false c) s ≡ copy-at H N c (listed k c s)
+  copied : (k c : ℕ) (s : Written) → c < copy-bit → write-entry H N k (last-entry false c) s ≡ copy-at H N c (listed k c s)
   unfolding write-entry
   copied k c s b = let e : (c + copy-bit) % copy-bit ≡ c = omega arith in rw (le-leb copy-bit (c + copy-bit) (omega arith), e)
 

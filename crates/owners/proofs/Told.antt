@@ -30,9 +30,9 @@ use Rattle.owners.specs.declared.Owners.{Owners}
 use Rattle.owners.specs.declared.Owners.the-variants as O
 use Rattle.ownertests.specs.Words.{IsEligible, NoOwners, Owner, IsList}
 use Rattle.ownertests.specs.Tests.{eligible, owns, has-owners, owners}
-use Rattle.ownertests.specs.Needs.{InUse}
-use Rattle.owners.specs.Scan.{Outcome, outcome, listed, scan, buffers-long, orbitOwners, ownersSaid}
-use Rattle.owners.specs.Promise.{IsDone}
+use Rattle.ownertests.specs.inner.Needs.{InUse}
+use Rattle.owners.specs.Scan.{OwnersOutcome, owners-outcome, listed, scan, buffers-long, orbitOwners, ownersSaid}
+use Rattle.owners.specs.Promise.{OwnersDone}
 use Rattle.owners.proofs.Listing.{those-rise, those-once, those-only}
 use Rattle.ownertests.proofs.Fan.{Closed, fans}
 use Rattle.ownertests.proofs.Right.{eligible-yes, eligible-true, none-words, words-none, all-back, eligible-closed, owns-owner, owner-owns}
@@ -108,7 +108,7 @@ module _ (e : Eligible) (c : Counts) (n : Net) (work list : List ℕ) where
   abbrev rows : List ℤ
   rows = n .halfedges
 
-  abbrev result : Outcome
+  abbrev result : OwnersOutcome
   result = orbitOwners e c n work list
 
   in-use : Shaped c n → InUse H rows
@@ -116,10 +116,10 @@ module _ (e : Eligible) (c : Counts) (n : Net) (work list : List ℕ) where
 
   -- the four ways that it can go, with what it then comes to
   by-answer : {P : Type 0}
-      → ((Shaped c n → ⊥) → result ≡ outcome shape work list → P)
-      → (Shaped c n → (Long H work list → ⊥) → result ≡ outcome short-buffer work list → P)
-      → (Shaped c n → Long H work list → NoOwners e H rows → result ≡ outcome no-owners (cleared H work) list → P)
-      → (Shaped c n → Long H work list → has-owners e H rows ≡ true → result ≡ outcome (done (whole (pos (length (owners e H rows))) ∷ [])) (cleared H work) (listed (owners e H rows) list) → P)
+      → ((Shaped c n → ⊥) → result ≡ owners-outcome shape work list → P)
+      → (Shaped c n → (Long H work list → ⊥) → result ≡ owners-outcome short-buffer work list → P)
+      → (Shaped c n → Long H work list → NoOwners e H rows → result ≡ owners-outcome no-owners (cleared H work) list → P)
+      → (Shaped c n → Long H work list → has-owners e H rows ≡ true → result ≡ owners-outcome (done (whole (pos (length (owners e H rows))) ∷ [])) (cleared H work) (listed (owners e H rows) list) → P)
       → P
   unfolding orbitOwners scan
   by-answer p q r f =
@@ -131,8 +131,8 @@ module _ (e : Eligible) (c : Counts) (n : Net) (work list : List ℕ) where
       (λ b. q (shaped-yes c n s) (λ z. not-both (buffers-long H work list) (long-true H work list z) b) (rw (s, b))))
       (λ s. p (shaped-no c n s) (rw s))
 
-  said-of : {o : Outcome} → result ≡ o → result .said ≡ o .said
-  said-of q = ap (λ (x : Outcome). x .said) q
+  said-of : {o : OwnersOutcome} → result ≡ o → result .said ≡ o .said
+  said-of q = ap (λ (x : OwnersOutcome). x .said) q
 
   -- answer 10, as document 01 has it
   pub says-none : (result .said ≡ no-owners) ↔ (Shaped c n × Long H work list × NoOwners e H rows)
@@ -164,8 +164,8 @@ module _ (e : Eligible) (c : Counts) (n : Net) (work list : List ℕ) where
   pub refused : (result .said ≡ shape) ⊎ (result .said ≡ short-buffer) → (result .work ≡ work) × (result .list ≡ list)
   refused z =
       by-answer
-      (λ m q. (ap (λ (x : Outcome). x .work) q, ap (λ (x : Outcome). x .list) q))
-      (λ s m q. (ap (λ (x : Outcome). x .work) q, ap (λ (x : Outcome). x .list) q))
+      (λ m q. (ap (λ (x : OwnersOutcome). x .work) q, ap (λ (x : OwnersOutcome). x .list) q))
+      (λ s m q. (ap (λ (x : OwnersOutcome). x .work) q, ap (λ (x : OwnersOutcome). x .list) q))
       (λ s b w q. neither (said-of q) (λ y. omega arith) (λ y. omega arith) z)
       (λ s b t q. neither (said-of q) (λ y. omega arith) (λ y. omega arith) z)
     where
@@ -178,11 +178,11 @@ module _ (e : Eligible) (c : Counts) (n : Net) (work list : List ℕ) where
       by-answer
       (λ m q. numbers-differ (sym (said-of q) ∙ z) (λ y. omega arith))
       (λ s m q. numbers-differ (sym (said-of q) ∙ z) (λ y. omega arith))
-      (λ s b w q. (ap (λ (x : Outcome). x .work) q, ap (λ (x : Outcome). x .list) q))
+      (λ s b w q. (ap (λ (x : OwnersOutcome). x .work) q, ap (λ (x : OwnersOutcome). x .list) q))
       (λ s b t q. numbers-differ (sym (said-of q) ∙ z) (λ y. omega arith))
 
   -- else it is done
-  pub says-done : Shaped c n → Long H work list → (NoOwners e H rows → ⊥) → (count : ℕ) × IsDone e c n work list result count
+  pub says-done : Shaped c n → Long H work list → (NoOwners e H rows → ⊥) → (count : ℕ) × OwnersDone e c n work list result count
   says-done s b w =
       by-answer
       (λ m q. absurd (m s))
@@ -194,15 +194,15 @@ module _ (e : Eligible) (c : Counts) (n : Net) (work list : List ℕ) where
           said = said-of q;
           listed = subst (IsList e H rows) (sym (front q)) (is-list e H rows (in-use s) t);
           counted = ap length (front q);
-          rest = ap (λ (x : Outcome). drop (length (owners e H rows)) (x .list)) q ∙ drop-at (owners e H rows) (drop (length (owners e H rows)) list) (length (owners e H rows)) refl;
+          rest = ap (λ (x : OwnersOutcome). drop (length (owners e H rows)) (x .list)) q ∙ drop-at (owners e H rows) (drop (length (owners e H rows)) list) (length (owners e H rows)) refl;
           each-fan = owner-there e H rows (in-use s) t;
           count-is = owners-counted e H rows (in-use s) t;
-          work-is = ap (λ (x : Outcome). x .work) q;
+          work-is = ap (λ (x : OwnersOutcome). x .work) q;
         },
       ))
     where
-      front : {a : Said} {w : List ℕ} → result ≡ outcome a w (listed (owners e H rows) list) → take (length (owners e H rows)) (result .list) ≡ owners e H rows
-      front q = ap (λ (x : Outcome). take (length (owners e H rows)) (x .list)) q ∙ take-at (owners e H rows) (drop (length (owners e H rows)) list) (length (owners e H rows)) refl
+      front : {a : Said} {w : List ℕ} → result ≡ owners-outcome a w (listed (owners e H rows) list) → take (length (owners e H rows)) (result .list) ≡ owners e H rows
+      front q = ap (λ (x : OwnersOutcome). take (length (owners e H rows)) (x .list)) q ∙ take-at (owners e H rows) (drop (length (owners e H rows)) list) (length (owners e H rows)) refl
 
 -- ---- two results agree
 -- the answer, read back from what is said
@@ -219,8 +219,8 @@ told O.ShortBuffer = refl
 told O.NoOwners = refl
 
 pub owners-agree : (e : Eligible) (c : Counts) (n : Net) (work list : List ℕ) (a b : Owners) (w w' l l' : List ℕ)
-    → outcome (ownersSaid a) w l ≡ orbitOwners e c n work list → outcome (ownersSaid b) w' l' ≡ orbitOwners e c n work list
+    → owners-outcome (ownersSaid a) w l ≡ orbitOwners e c n work list → owners-outcome (ownersSaid b) w' l' ≡ orbitOwners e c n work list
     → (a ≡ b) × (w ≡ w') × (l ≡ l')
 owners-agree e c n work list a b w w' l l' p q =
     let z = p ∙ sym q in
-    (read-back ownersSaid answer-of told a b (ap (λ (x : Outcome). x .said) z), ap (λ (x : Outcome). x .work) z, ap (λ (x : Outcome). x .list) z)
+    (read-back ownersSaid answer-of told a b (ap (λ (x : OwnersOutcome). x .said) z), ap (λ (x : OwnersOutcome). x .work) z, ap (λ (x : OwnersOutcome). x .list) z)

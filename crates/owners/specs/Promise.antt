@@ -12,10 +12,10 @@ use Rattle.net.specs.Sound.{turn}
 use Rattle.turning.specs.Fan.{Reach, Count}
 use Rattle.ownertests.specs.declared.Eligible.{Eligible}
 use Rattle.ownertests.specs.Words.{IsEligible, Owner, IsList}
-use Rattle.owners.specs.Scan.{Outcome}
+use Rattle.owners.specs.Scan.{OwnersOutcome}
 
 -- answer 0, with the count
-pub record IsDone (e : Eligible) (c : Counts) (n : Net) (work list : List ℕ) (o : Outcome) (count : ℕ) : Type 0 where
+pub record OwnersDone (e : Eligible) (c : Counts) (n : Net) (work list : List ℕ) (o : OwnersOutcome) (count : ℕ) : Type 0 where
   pub said : o .said ≡ done (whole (pos count) ∷ [])
   -- the list's first entries are the least eligible half-edges of their fans, rising, each once, and the rest is kept
   pub listed : IsList e (c .halfedges) (n .halfedges) (take count (o .list))

@@ -7,8 +7,8 @@ ghost use lib.ListN.{length, getD};
 ghost use Rattle.numbers.specs.Next.{most-halfedges};
 ghost use Rattle.net.specs.Net.{net};
 ghost use Rattle.ownertests.specs.Tests.{those-below};
-ghost use Rattle.ownertests.specs.Needs.{InUse};
-ghost use Rattle.owners.specs.Scan.{outcome, listed, scan, orbitOwners, ownersSaid};
+ghost use Rattle.ownertests.specs.inner.Needs.{InUse};
+ghost use Rattle.owners.specs.Scan.{owners-outcome, listed, scan, orbitOwners, ownersSaid};
 use fanmarks::OWNER;
 use net::Counts;
 use ownertests::Eligible;
@@ -48,7 +48,7 @@ fn find_owners(
     eligible: Eligible,
 ) -> Owners
     requires { ⌜ InUse halfedges (now rows) × ((halfedges ≤ length (now work)) × (halfedges ≤ length (now list))) ⌝ }
-    ensures { λ r. ⌜ outcome (ownersSaid r) (now (work .exit)) (now (list .exit)) ≡ scan eligible halfedges (now (rows .entry)) (now (work .entry)) (now (list .entry)) ⌝ }
+    ensures { λ r. ⌜ owners-outcome (ownersSaid r) (now (work .exit)) (now (list .exit)) ≡ scan eligible halfedges (now (rows .entry)) (now (work .entry)) (now (list .entry)) ⌝ }
 {
     stretches::zero_u8(work, 0, halfedges);
     if !fanmarks::has_owners(rows, work, halfedges, eligible) {
@@ -72,7 +72,7 @@ pub fn orbit_owners(
     list: &mut [u32],
     eligible: Eligible,
 ) -> Owners
-    ensures { λ r. ⌜ outcome (ownersSaid r) (now (work .exit)) (now (list .exit)) ≡ orbitOwners eligible counts (net (now (halfedges .entry)) (now (positions .entry)) (now (normals .entry)) (now (references .entry)) (now (properties .entry))) (now (work .entry)) (now (list .entry)) ⌝ }
+    ensures { λ r. ⌜ owners-outcome (ownersSaid r) (now (work .exit)) (now (list .exit)) ≡ orbitOwners eligible counts (net (now (halfedges .entry)) (now (positions .entry)) (now (normals .entry)) (now (references .entry)) (now (properties .entry))) (now (work .entry)) (now (list .entry)) ⌝ }
 {
     if !net::shaped(
         counts,

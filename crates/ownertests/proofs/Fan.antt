@@ -15,7 +15,7 @@ use Rattle.turning.specs.Fan.{iter, Turning}
 use Rattle.turning.proofs.Orbit.{iter-suc}
 use Rattle.turning.proofs.Pigeon.{pigeon}
 use Rattle.ownertests.specs.Tests.{closes}
-use Rattle.ownertests.specs.Needs.{Back}
+use Rattle.ownertests.specs.inner.Needs.{Back}
 use Rattle.ownertests.proofs.Below.{all-yes, all-true}
 use Rattle.ownertests.proofs.Points.{paired-yes, paired-true}
 

@@ -12,7 +12,7 @@ use Rattle.turning.specs.Fan.{iter, Reach}
 use Rattle.turning.proofs.Orbit.{Period, period, soon}
 use Rattle.ownertests.specs.declared.Eligible.{Eligible}
 use Rattle.ownertests.specs.Tests.{all-below, eligible, not-above, owns}
-use Rattle.ownertests.specs.Needs.{Back}
+use Rattle.ownertests.specs.inner.Needs.{Back}
 use Rattle.ownertests.proofs.Below.{all-yes, all-true}
 use Rattle.ownertests.proofs.Fan.{Closed, fans}
 

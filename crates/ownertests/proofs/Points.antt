@@ -16,7 +16,7 @@ use Rattle.rows.specs.Halfedges.{pairOf, is-paired}
 use Rattle.net.specs.Sound.{partner, Paired, turn}
 use Rattle.ownertests.specs.Words.{Unpaired, PointsBack}
 use Rattle.ownertests.specs.Tests.{all-below, is-back, back-by, points-back, turns-to}
-use Rattle.ownertests.specs.Needs.{InUse, Back}
+use Rattle.ownertests.specs.inner.Needs.{InUse, Back}
 use Rattle.ownertests.proofs.Below.{all-yes}
 
 -- a number of 0 or more, by its test

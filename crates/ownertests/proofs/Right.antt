@@ -14,7 +14,7 @@ use Rattle.ownertests.specs.declared.Eligible.{Eligible}
 use Rattle.ownertests.specs.declared.Eligible.the-variants as E
 use Rattle.ownertests.specs.Words.{IsEligible, PointsBack, RunsOut, NoOwners, Owner}
 use Rattle.ownertests.specs.Tests.{all-below, eligible, points-back, closes, closes-if, owns, has-owners}
-use Rattle.ownertests.specs.Needs.{InUse, Back}
+use Rattle.ownertests.specs.inner.Needs.{InUse, Back}
 use Rattle.ownertests.proofs.Below.{all-yes, all-stop, all-no}
 use Rattle.ownertests.proofs.Points.{counts-yes, counts-true, paired-yes, paired-no, unpaired-not, points-yes, points-no, back-yes}
 use Rattle.ownertests.proofs.Fan.{Closed, closes-yes}

@@ -1,3 +1,3 @@
 pub mod Words
 pub mod Tests
-pub mod Needs
+pub mod inner

@@ -6,7 +6,7 @@ ghost use Rattle.numbers.specs.Numbers.{halfedgeNumber, halfedgeNamed, names};
 ghost use Rattle.rows.specs.Halfedges.{pairOf, lent-halfedges};
 ghost use Rattle.ownertests.specs.Tests.{is-back, points-back, turns-to};
 ghost use Rattle.ownertests.specs.Tests.{eligible as is-eligible};
-ghost use Rattle.ownertests.specs.Needs.{InUse};
+ghost use Rattle.ownertests.specs.inner.Needs.{InUse};
 use numbers::Halfedge;
 use numbers::NamedHalfedge;
 
@@ -21,10 +21,9 @@ pub fn is_eligible(rows: &[i32], h: Halfedge, eligible: Eligible) -> bool
     requires { ⌜ halfedgeNumber h < lent-halfedges (now rows) ⌝ }
     ensures { λ r. ⌜ r ≡ is-eligible eligible (now (rows .entry)) (halfedgeNumber h) ⌝ }
 {
-    let k = h.number();
     match eligible {
-        Eligible::Start => rows::corners::started(rows, k),
-        Eligible::StartAndEnd => rows::corners::started(rows, k) & rows::corners::ended(rows, k),
+        Eligible::Start => halfedges::is_started(rows, h),
+        Eligible::StartAndEnd => halfedges::is_started(rows, h) & halfedges::is_ended(rows, h),
     }
 }
 
@@ -46,7 +45,7 @@ pub fn is_paired_back(rows: &[i32], h: Halfedge, halfedges: usize) -> bool
 {
     match rows::halfedges::pair_of(rows, h, halfedges) {
         NamedHalfedge::At(p) => is_pair(rows, p, h, halfedges),
-        NamedHalfedge::Nothing => !rows::corners::paired(rows, h.number()),
+        NamedHalfedge::Nothing => !halfedges::is_paired(rows, h),
     }
 }
 

@@ -6,7 +6,7 @@ use lib.IntN.{ℤ, pos, negsuc}
 use Rattle.answers.specs.Answers.{Said, done, shape, bad-number}
 use Rattle.rows.specs.Halfedges.{column, set-column}
 use Rattle.net.specs.Counts.{is-shaped, triangle-capacity-over, vertex-capacity-over, property-capacity-over}
-use Rattle.example.specs.Example.{live, P-rows, P-positions, counts, bare}
+use Rattle.example.specs.Example.{live-row, P-rows, P-positions, counts, bare}
 use Rattle.pairing.specs.Pairing.{paired, pairUp}
 
 pub record Case : Type 0 where
@@ -22,9 +22,9 @@ case h a b s l = record { halfedges = h; first = a; second = b; says = s; leaves
 abbrev pub cases : List Case
 cases =
     -- two rows; the same number twice; the last row
-    case 6 (pos 0) (pos 1) (done []) (live 0 1 1 ++ live 1 2 0 ++ live 2 0 4 ++ live 1 0 0 ++ live 0 2 2 ++ live 2 1 1)
-    ∷ case 6 (pos 2) (pos 2) (done []) (live 0 1 3 ++ live 1 2 5 ++ live 2 0 2 ++ live 1 0 0 ++ live 0 2 2 ++ live 2 1 1)
-    ∷ case 6 (pos 5) (pos 0) (done []) (live 0 1 5 ++ live 1 2 5 ++ live 2 0 4 ++ live 1 0 0 ++ live 0 2 2 ++ live 2 1 0)
+    case 6 (pos 0) (pos 1) (done []) (live-row 0 1 1 ++ live-row 1 2 0 ++ live-row 2 0 4 ++ live-row 1 0 0 ++ live-row 0 2 2 ++ live-row 2 1 1)
+    ∷ case 6 (pos 2) (pos 2) (done []) (live-row 0 1 3 ++ live-row 1 2 5 ++ live-row 2 0 2 ++ live-row 1 0 0 ++ live-row 0 2 2 ++ live-row 2 1 1)
+    ∷ case 6 (pos 5) (pos 0) (done []) (live-row 0 1 5 ++ live-row 1 2 5 ++ live-row 2 0 4 ++ live-row 1 0 0 ++ live-row 0 2 2 ++ live-row 2 1 0)
     -- a number beyond the rows in use, and one below 0, at either place
     ∷ case 6 (pos 6) (pos 0) bad-number P-rows
     ∷ case 6 (pos 0) (pos 6) bad-number P-rows

@@ -19,8 +19,9 @@ use Rattle.numbers.proofs.NextLaws.{first-next, second-next, third-next, next-r
 use Rattle.rows.specs.Halfedges.{start, end, pair, startOf, endOf, pairOf, rows-from}
 use Rattle.rows.proofs.Columns.{column-from}
 use Rattle.net.specs.Sound.{start-vertex, partner, Paired, DeadRow, LiveRow, InOrder}
-use Rattle.rowtests.specs.Order.{empty3, apart3, differ, in-order, first-failing, least-out, TriangleAt}
-use Rattle.quickpass.specs.Quick.{placed, placed3, joined, joined3, Met, Met3, OwnTest, OwnTests, Passed, Passed-from, RowsAt}
+use Rattle.rowtests.specs.Order.{empty3, apart3, differ, in-order, first-failing, least-out}
+use Rattle.rowtests.specs.inner.Triangle.{TriangleAt}
+use Rattle.quickpass.specs.inner.Quick.{placed, placed3, chained, chained3, Met, Met3, OwnTest, OwnTests, Passed, Passed-from, RowsAt}
 use Rattle.rowtests.proofs.Search.{all-pass, none-fails}
 use Rattle.rowtests.proofs.Right.{named-is, apart-yes, in-order-yes, yes-in-order}
 use Rattle.rowtests.proofs.Triangle.{all-dead}
@@ -30,7 +31,7 @@ module _ (H N : ℕ) (rows : List ℤ) (t k j : ℕ) where
   abbrev tri : List ℤ
   tri = rows-from t rows
 
-  own-test : next (t + k) ≡ t + j → placed N tri k ≡ true → joined tri k j ≡ true → differ tri k j ≡ true → Met H rows tri k j (t + k) → OwnTest H N rows (t + k)
+  own-test : next (t + k) ≡ t + j → placed N tri k ≡ true → chained tri k j ≡ true → differ tri k j ≡ true → Met H rows tri k j (t + k) → OwnTest H N rows (t + k)
   own-test e p q d m =
       let s = named-is (startOf rows (t + k)) N (rw (column-from start t k rows) at p) in
       record {
@@ -48,10 +49,10 @@ module _ (H N : ℕ) (rows : List ℤ) (t k j : ℕ) where
 
 -- a triangle
 module _ (H N : ℕ) (rows tri : List ℤ) (t : ℕ) (a : TriangleAt H rows tri t) where
-  pub three : placed3 N tri 0 1 2 ≡ true → joined3 tri 0 1 2 ≡ true → apart3 tri 0 1 2 ≡ true → Met3 H rows tri t → OwnTest H N rows t × OwnTest H N rows (t + 1) × OwnTest H N rows (t + 2)
+  pub three : placed3 N tri 0 1 2 ≡ true → chained3 tri 0 1 2 ≡ true → apart3 tri 0 1 2 ≡ true → Met3 H rows tri t → OwnTest H N rows t × OwnTest H N rows (t + 1) × OwnTest H N rows (t + 2)
   three p q d m =
       let ps = rw (a .part) at (and3 (placed N tri 0) (placed N tri 1) (placed N tri 2) p) in
-      let qs = rw (a .part) at (and3 (joined tri 0 1) (joined tri 1 2) (joined tri 2 0) q) in
+      let qs = rw (a .part) at (and3 (chained tri 0 1) (chained tri 1 2) (chained tri 2 0) q) in
       let ds = rw (a .part) at (and3 (differ tri 0 1) (differ tri 1 2) (differ tri 2 0) d) in
       let ms = rw (a .part) at m in (
         rw add-zero at (own-test H N rows t 0 1 (rw (add-zero t) (first-next t (a .first))) (ps .0) (qs .0) (ds .0) (rw (add-zero t) (ms .first))),

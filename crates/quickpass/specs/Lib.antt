@@ -1,1 +1,1 @@
-pub mod Quick
+pub mod inner

@@ -5,8 +5,9 @@ ghost use mathlib.Core.Bool.{true};
 ghost use Prim.Native.Nat.{_+_, _<_, _≤_};
 ghost use Rattle.numbers.specs.Numbers.{nothing};
 ghost use Rattle.rows.specs.Halfedges.{lent-halfedges};
-ghost use Rattle.rowtests.specs.Order.{paired3, live, least-out, TriangleAt};
-ghost use Rattle.quickpass.specs.Quick.{started3, placed3, joined3, Met3, Passed-from, RowsAt};
+ghost use Rattle.rowtests.specs.Order.{paired3, least-out};
+ghost use Rattle.rowtests.specs.inner.Triangle.{TriangleAt};
+ghost use Rattle.quickpass.specs.inner.Quick.{started3, placed3, chained3, Met3, Passed-from, RowsAt};
 use rows::corners;
 
 // All three corners have a start of 0 or more.
@@ -32,9 +33,9 @@ fn is_placed(tri: &[i32], vertices: usize) -> bool
 }
 
 // Each corner ends where the one behind it starts.
-fn is_joined(tri: &[i32]) -> bool
+fn is_chained(tri: &[i32]) -> bool
     requires { ⌜ 3 ≤ lent-halfedges (now tri) ⌝ }
-    ensures { λ r. ⌜ r ≡ joined3 (now (tri .entry)) 0 1 2 ⌝ }
+    ensures { λ r. ⌜ r ≡ chained3 (now (tri .entry)) 0 1 2 ⌝ }
 {
     corners::joined(tri, 0, 1) & corners::joined(tri, 1, 2) & corners::joined(tri, 2, 0)
 }
@@ -76,7 +77,7 @@ fn is_live_triangle(tri: &[i32], rows: &[i32], t: usize, halfedges: usize, verti
     if !rowtests::is_apart(tri) {
         return false;
     }
-    if !is_joined(tri) {
+    if !is_chained(tri) {
         return false;
     }
     is_met(tri, rows, t, halfedges)

@@ -32,8 +32,8 @@ use Rattle.ownertests.specs.declared.Eligible.{Eligible}
 use Rattle.ownertests.specs.Tests.{has-owners}
 use Rattle.owners.specs.Scan.{scan, orbitOwners}
 use Rattle.owners.specs.Scan as O
-use Rattle.splitting.specs.Steps.{Tallied, tallied, unclosed, count}
-use Rattle.splitting.specs.Split.{Outcome, outcome, by-count, split-sound, by-order, buffers-long, splitPinched}
+use Rattle.splitting.specs.Steps.{Tallied, tallied, unclosed, count-rows}
+use Rattle.splitting.specs.Split.{SplitOutcome, split-outcome, by-count, split-sound, by-order, buffers-long, splitPinched}
 use Rattle.refusals.specs.Refusals.{nothing-asked, of-sound, of-any, Names, NamesLive, Early, Refusals}
 use Rattle.refusals.proofs.Law.{checked, Begins, stops, goes}
 use Rattle.refusals.proofs.Entries.{sound-refusals, long-refusals, any-refusals}
@@ -154,32 +154,32 @@ module _ (c : Counts) (n : Net) where
         go nothing w = stops said-left at-entry (λ s. refl) bad-number (λ z. omega arith)
 
   module _ (work list : List ℕ) where
-    abbrev said-scan : O.Outcome → Said
+    abbrev said-scan : O.OwnersOutcome → Said
     said-scan o = o .said
 
-    pub orbit-owners : (e : Eligible) → Refusals (of-any c n ((H ≤ length work) × (H ≤ length list)) nothing-asked) said-scan (λ s. O.outcome s work list) (orbitOwners e c n work list)
+    pub orbit-owners : (e : Eligible) → Refusals (of-any c n ((H ≤ length work) × (H ≤ length list)) nothing-asked) said-scan (λ s. O.owners-outcome s work list) (orbitOwners e c n work list)
     unfolding orbitOwners scan
     orbit-owners e =
-        any-refusals c n said-scan (λ s. O.outcome s work list) (λ s. refl) ((H ≤ length work) × (H ≤ length list)) nothing-asked (O.buffers-long H work list) true
+        any-refusals c n said-scan (λ s. O.owners-outcome s work list) (λ s. refl) ((H ≤ length work) × (H ≤ length list)) nothing-asked (O.buffers-long H work list) true
         (told-both (told-least H (length work)) (told-least H (length list))) told-nothing (scan e H rows work list)
-        (goes said-scan (λ s. O.outcome s work list) (λ s. refl) (scan e H rows work list)
+        (goes said-scan (λ s. O.owners-outcome s work list) (λ s. refl) (scan e H rows work list)
         (by-test (has-owners e H rows) (λ t. rw t (λ e. omega (arith, e .0))) (λ t. rw t (λ e. omega (arith, e .1)))))
 
-    abbrev said-split : Outcome → Said
+    abbrev said-split : SplitOutcome → Said
     said-split o = o .said
 
     split-late : Early (split-sound H N rows (n .positions) work list .said) → ⊥
     unfolding split-sound
-    split-late = go (count H N rows H (cleared (H + N) work))
+    split-late = go (count-rows H N rows H (cleared (H + N) work))
       where
         go : (t : Tallied) → Early (by-count H N rows (n .positions) work list t .said) → ⊥
         go unclosed = λ e. omega (arith, e .1)
         go (tallied w copies) = by-test (leb copies (vertex-capacity-over (n .positions) - N)) (λ t. rw t (λ e. omega (arith, e .0))) (λ t. rw t (λ e. omega (arith, e .1)))
 
-    pub split-pinched-verts : Refusals (of-sound c n ((H + N ≤ length work) × (H ≤ length list)) nothing-asked nothing-asked) said-split (λ s. outcome s rows (n .positions) work list) (splitPinched c n work list)
+    pub split-pinched-verts : Refusals (of-sound c n ((H + N ≤ length work) × (H ≤ length list)) nothing-asked nothing-asked) said-split (λ s. split-outcome s rows (n .positions) work list) (splitPinched c n work list)
     unfolding splitPinched
     split-pinched-verts =
-        long-refusals c n said-split (λ s. outcome s rows (n .positions) work list) (λ s. refl) ((H + N ≤ length work) × (H ≤ length list)) nothing-asked nothing-asked
+        long-refusals c n said-split (λ s. split-outcome s rows (n .positions) work list) (λ s. refl) ((H + N ≤ length work) × (H ≤ length list)) nothing-asked nothing-asked
         (buffers-long H N work list) true true (told-both (told-least (H + N) (length work)) (told-least H (length list))) told-nothing told-nothing
         (by-order H N rows (n .positions) work list) (λ h. refl)
-        (goes said-split (λ s. outcome s rows (n .positions) work list) (λ s. refl) (split-sound H N rows (n .positions) work list) split-late)
+        (goes said-split (λ s. split-outcome s rows (n .positions) work list) (λ s. refl) (split-sound H N rows (n .positions) work list) split-late)

@@ -10,9 +10,9 @@ use Rattle.rows.specs.Halfedges.{column, set-column}
 use Rattle.rows.specs.Triples.{put-triple}
 use Rattle.net.specs.Counts.{is-shaped, triangle-capacity-over, vertex-capacity-over, property-capacity-over}
 use Rattle.soundness.specs.Check.{checkNet}
-use Rattle.rowtests.specs.Order.{live as is-live, in-order, first-failing}
+use Rattle.rowtests.specs.Order.{is-live, in-order, first-failing}
 use Rattle.pairing.specs.Pairing.{paired}
-use Rattle.example.specs.Example.{live, dead as gone, P-rows, counts, bare}
+use Rattle.example.specs.Example.{row-with-prop, live-row, dead-row, P-rows, counts, bare}
 use Rattle.folds.specs.Folds.{lose, lose-folded, has-pair, joined, join, cleared, clear, take-out, fold-at, fold}
 use Rattle.removefolded.specs.RemoveIfFolded.{foldNamed, removeIfFolded}
 
@@ -46,21 +46,21 @@ abbrev same : ℕ → ℕ → List ℤ → ℤ → Said → Case
 same h v r e s = case h v r e s r places
 
 abbrev gone3 : List ℤ
-gone3 = gone ++ gone ++ gone
+gone3 = dead-row ++ dead-row ++ dead-row
 
 -- triangles 0 and 1 meet at rows 0 and 3 and at rows 1 and 5; rows 2 and 4 lead to triangles 2 and 3, which meet at the rest
 abbrev flap : List ℤ
 flap =
-    live 0 1 3 ++ live 1 2 5 ++ live 2 0 6 ++ live 1 0 0 ++ live 0 2 9 ++ live 2 1 1
-    ++ live 0 2 2 ++ live 2 3 11 ++ live 3 0 10 ++ live 2 0 4 ++ live 0 3 8 ++ live 3 2 7
+    live-row 0 1 3 ++ live-row 1 2 5 ++ live-row 2 0 6 ++ live-row 1 0 0 ++ live-row 0 2 9 ++ live-row 2 1 1
+    ++ live-row 0 2 2 ++ live-row 2 3 11 ++ live-row 3 0 10 ++ live-row 2 0 4 ++ live-row 0 3 8 ++ live-row 3 2 7
 
 -- the flap taken out: rows 6 and 9 are partners
 abbrev without : List ℤ
-without = gone3 ++ gone3 ++ live 0 2 9 ++ live 2 3 11 ++ live 3 0 10 ++ live 2 0 6 ++ live 0 3 8 ++ live 3 2 7
+without = gone3 ++ gone3 ++ live-row 0 2 9 ++ live-row 2 3 11 ++ live-row 3 0 10 ++ live-row 2 0 6 ++ live-row 0 3 8 ++ live-row 3 2 7
 
 -- props of every row are cleared
 abbrev P-props : List ℤ
-P-props = (pos 0 ∷ pos 1 ∷ pos 3 ∷ pos 7 ∷ []) ++ (pos 1 ∷ pos 2 ∷ pos 5 ∷ pos 8 ∷ []) ++ (pos 2 ∷ pos 0 ∷ pos 4 ∷ pos 9 ∷ []) ++ live 1 0 0 ++ live 0 2 2 ++ live 2 1 1
+P-props = row-with-prop (pos 0) (pos 1) (pos 3) (pos 7) ++ row-with-prop (pos 1) (pos 2) (pos 5) (pos 8) ++ row-with-prop (pos 2) (pos 0) (pos 4) (pos 9) ++ live-row 1 0 0 ++ live-row 0 2 2 ++ live-row 2 1 1
 
 abbrev pub cases : List Case
 cases =
@@ -78,7 +78,7 @@ cases =
     ∷ same 6 3 P-rows (pos 6) bad-number
     ∷ same 6 3 P-rows (negsuc 0) bad-number
     ∷ same 12 4 without (pos 5) dead
-    ∷ same 6 3 (live 0 1 3 ++ live 1 2 5 ++ live 2 0 6 ++ live 1 0 0 ++ live 0 2 2 ++ live 2 1 1) (pos 6) (unsound 2)
+    ∷ same 6 3 (live-row 0 1 3 ++ live-row 1 2 5 ++ live-row 2 0 6 ++ live-row 1 0 0 ++ live-row 0 2 2 ++ live-row 2 1 1) (pos 6) (unsound 2)
     ∷ same 6 5 P-rows (pos 6) shape
     ∷ []
 

@@ -7,7 +7,7 @@ use lib.IntN.{ℤ, pos, negsuc}
 use Rattle.digits.specs.Written.{glyph, decimal-in}
 use Rattle.digits.proofs.Quoted.{bytes-from, text}
 use Rattle.rows.specs.Halfedges.{column}
-use Rattle.example.specs.Example.{dead, P-rows, rows}
+use Rattle.example.specs.Example.{dead-row, P-rows, rows}
 use Rattle.report.specs.declared.Outcome.{Outcome}
 use Rattle.report.specs.declared.Outcome.the-variants as O
 use Rattle.report.specs.Report.{behind-commas, commas, text-of, live-halfedges, live-triangles, euler}
@@ -40,6 +40,6 @@ unfolding text-of commas behind-commas decimal-in glyph text bytes-from
 cases-hold = refl
 
 -- vertex rows, triangles and rows: the example after its split, P with its three vertices and with none, and a dead triangle
-pub euler-cases : euler 6 4 rows ∷ euler 3 2 P-rows ∷ euler 0 2 P-rows ∷ euler 5 1 (dead ++ (dead ++ dead)) ∷ [] ≡ pos 4 ∷ pos 2 ∷ negsuc 0 ∷ pos 5 ∷ []
+pub euler-cases : euler 6 4 rows ∷ euler 3 2 P-rows ∷ euler 0 2 P-rows ∷ euler 5 1 (dead-row ++ (dead-row ++ dead-row)) ∷ [] ≡ pos 4 ∷ pos 2 ∷ negsuc 0 ∷ pos 5 ∷ []
 unfolding euler live-halfedges live-triangles column
 euler-cases = refl

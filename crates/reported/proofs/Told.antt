@@ -22,7 +22,7 @@ use Rattle.net.specs.Counts.{triangle-capacity-over, vertex-capacity-over, prop
 use Rattle.net.specs.Sound.{Sound}
 use Rattle.rowtests.specs.Order.{least-out}
 use Rattle.soundness.proofs.Told.{nothing-out, least-is}
-use Rattle.splitting.specs.Split.{Outcome, done-with, splitPinched}
+use Rattle.splitting.specs.Split.{SplitOutcome, done-with, splitPinched}
 use Rattle.splitsound.specs.Demand.{Demand3}
 use Rattle.splitsound.proofs.Told.{demand-3}
 use Rattle.refusals.proofs.Told.{split-pinched-verts}
@@ -45,18 +45,18 @@ laid-long put k keeps (a ∷ l) used rows h =
     laid-long put k keeps l (used + 1) (put used a rows) (rw e (omega arith)) ∙ e
 
 -- the text by what is said
-done-text : (vertices triangles : ℕ) (o : Outcome) (added steps : ℕ) → o .said ≡ done-with added steps → text-after vertices triangles o
+done-text : (vertices triangles : ℕ) (o : SplitOutcome) (added steps : ℕ) → o .said ≡ done-with added steps → text-after vertices triangles o
     ≡ line answer-word (decimal 0)
     ++ (line added-word (decimal added)
     ++ (line steps-word (decimal steps) ++ (line visit-word (commas (take steps (o .visit))) ++ line euler-word (signed (euler (vertices + added) triangles (o .halfedges))))))
 unfolding text-of
 done-text vertices triangles o added steps e = rw e
 
-full-text : (vertices triangles : ℕ) (o : Outcome) → o .said ≡ no-room → text-after vertices triangles o ≡ line answer-word (decimal 6)
+full-text : (vertices triangles : ℕ) (o : SplitOutcome) → o .said ≡ no-room → text-after vertices triangles o ≡ line answer-word (decimal 6)
 unfolding text-of
 full-text vertices triangles o e = rw e
 
-row-text : (vertices triangles : ℕ) (o : Outcome) (h : ℕ) → o .said ≡ unsound h → text-after vertices triangles o ≡ line answer-word (decimal 3) ++ line row-word (decimal h)
+row-text : (vertices triangles : ℕ) (o : SplitOutcome) (h : ℕ) → o .said ≡ unsound h → text-after vertices triangles o ≡ line answer-word (decimal 3) ++ line row-word (decimal h)
 unfolding text-of
 row-text vertices triangles o h e = rw e
 
@@ -73,7 +73,7 @@ module _ (file : List ℕ) (vertices triangles : ℕ) (ps : List Bits3) (hs : Li
   abbrev n : Net
   n = held ps hs
 
-  abbrev after : Outcome
+  abbrev after : SplitOutcome
   after = splitPinched c n no-work no-visit
 
   few : (vertices ≤ 256) × (triangles ≤ 256)
@@ -126,7 +126,7 @@ module _ (file : List ℕ) (vertices triangles : ℕ) (ps : List Bits3) (hs : Li
           by-room : Dec (vertices + (d .fans - d .starts) ≤ 256) → Reported vertices triangles n (text-after vertices triangles after)
           by-room (yes r) =
               let said = d .with-room (omega (arith, capacity)) .done .said in
-              split-up (record { after = after; parted = p; room = r; text = done-text vertices triangles after (d .fans - d .starts) (d .live) said })
+              split-up (record { after = after; parted = p; room = r; text = done-text vertices triangles after (d .fans - d .starts) (d .live-halfedges) said })
           by-room (no r) =
               let said = d .without (omega (arith, capacity)) .said in
               full (record { after = after; parted = p; none = omega arith; text = full-text vertices triangles after said })

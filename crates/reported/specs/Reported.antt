@@ -12,7 +12,7 @@ use Rattle.rows.specs.Triples.{put-triple}
 use Rattle.net.specs.declared.Counts.{Counts}
 use Rattle.net.specs.Net.{Net}
 use Rattle.net.specs.Sound.{Sound, LeastOut}
-use Rattle.splitting.specs.Split.{Outcome}
+use Rattle.splitting.specs.Split.{SplitOutcome}
 use Rattle.splitsound.specs.Demand.{Demand3}
 use Rattle.meshfile.specs.Told.{laid}
 use Rattle.texts.specs.Appended.{line}
@@ -30,25 +30,25 @@ pub record OutOfOrder (c : Counts) (n : Net) (report : List ℕ) : Type 0 where
   pub text : report ≡ line answer-word (decimal 3) ++ line row-word (decimal row)
 
 -- the net is sound, and `after` is what splitting it leaves
-pub record Parted (c : Counts) (n : Net) (after : Outcome) : Type 0 where
+pub record Parted (c : Counts) (n : Net) (after : SplitOutcome) : Type 0 where
   pub sound : Sound c n
   pub demand : Demand3 c n no-work no-visit after
 
 -- the copies find room in 256 vertex rows: five lines, the visits in their order
 pub record SplitUp (vertices triangles : ℕ) (n : Net) (report : List ℕ) : Type 0 where
-  pub after : Outcome
+  pub after : SplitOutcome
   pub parted : Parted (counts vertices triangles) n after
   pub room : vertices + (parted .demand .fans - parted .demand .starts) ≤ 256
   pub text : report
       ≡ line answer-word (decimal 0)
       ++ (line added-word (decimal (parted .demand .fans - parted .demand .starts))
-      ++ (line steps-word (decimal (parted .demand .live))
-      ++ (line visit-word (commas (take (parted .demand .live) (after .visit)))
+      ++ (line steps-word (decimal (parted .demand .live-halfedges))
+      ++ (line visit-word (commas (take (parted .demand .live-halfedges) (after .visit)))
       ++ line euler-word (signed (euler (vertices + (parted .demand .fans - parted .demand .starts)) triangles (after .halfedges))))))
 
 -- or they do not
 pub record Full (vertices triangles : ℕ) (n : Net) (report : List ℕ) : Type 0 where
-  pub after : Outcome
+  pub after : SplitOutcome
   pub parted : Parted (counts vertices triangles) n after
   pub none : 256 < vertices + (parted .demand .fans - parted .demand .starts)
   pub text : report ≡ line answer-word (decimal 6)

@@ -12,7 +12,7 @@ use Rattle.pairing.specs.Pairing.{paired}
 use Rattle.steps.specs.Steps.{middle, running, begin, Going, NoRoom}
 use Rattle.walks.specs.Walk.{onward, moved, walk, update}
 use Rattle.loops.specs.Loops.{append}
-use Rattle.example.specs.Example.{live, dead as gone, P-rows}
+use Rattle.example.specs.Example.{live-row, dead-row, P-rows}
 use Rattle.searches.specs.Seek.{seek}
 use Rattle.searches.specs.Duplicates.{turns, is-duplicate, those, is-in, search-row, search-rows, again, still}
 use Rattle.growth.specs.declared.Limits.{Limits}
@@ -44,17 +44,17 @@ four = at 10 ++ at 20 ++ at 30 ++ at 40
 -- two edges from 0 to 1, rows 0 and 9; behind them two free triangles
 abbrev pillows : List ℤ
 pillows =
-    live 0 1 6 ++ live 1 2 5 ++ live 2 0 4 ++ live 1 0 9 ++ live 0 2 2 ++ live 2 1 1
-    ++ live 1 0 0 ++ live 0 3 11 ++ live 3 1 10 ++ live 0 1 3 ++ live 1 3 8 ++ live 3 0 7
+    live-row 0 1 6 ++ live-row 1 2 5 ++ live-row 2 0 4 ++ live-row 1 0 9 ++ live-row 0 2 2 ++ live-row 2 1 1
+    ++ live-row 1 0 0 ++ live-row 0 3 11 ++ live-row 3 1 10 ++ live-row 0 1 3 ++ live-row 1 3 8 ++ live-row 3 0 7
 
 abbrev free : List ℤ
-free = gone ++ gone ++ gone ++ gone ++ gone ++ gone
+free = dead-row ++ dead-row ++ dead-row ++ dead-row ++ dead-row ++ dead-row
 
 abbrev deduped : List ℤ
 deduped =
-    live 0 1 6 ++ live 1 2 14 ++ live 2 0 4 ++ live 4 0 9 ++ live 0 2 2 ++ live 2 4 13
-    ++ live 1 0 0 ++ live 0 3 11 ++ live 3 1 16 ++ live 0 4 3 ++ live 4 3 17 ++ live 3 0 7
-    ++ live 1 4 15 ++ live 4 2 5 ++ live 2 1 1 ++ live 4 1 12 ++ live 1 3 8 ++ live 3 4 10
+    live-row 0 1 6 ++ live-row 1 2 14 ++ live-row 2 0 4 ++ live-row 4 0 9 ++ live-row 0 2 2 ++ live-row 2 4 13
+    ++ live-row 1 0 0 ++ live-row 0 3 11 ++ live-row 3 1 16 ++ live-row 0 4 3 ++ live-row 4 3 17 ++ live-row 3 0 7
+    ++ live-row 1 4 15 ++ live-row 4 2 5 ++ live-row 2 1 1 ++ live-row 4 1 12 ++ live-row 1 3 8 ++ live-row 3 4 10
 
 abbrev case : Limits → ℕ → Growing → Growing → Bool → Case
 case l n w e clean = record { limits = l; most = n; net = w; ends = rounded e clean }

@@ -15,7 +15,7 @@ use Rattle.numbers.specs.Next.{next}
 use Rattle.numbers.proofs.Names.{names-is, names-below, names-at}
 use Rattle.rows.specs.Halfedges.{startOf, endOf, pairOf, none, is-empty, is-paired}
 use Rattle.net.specs.Sound.{partner, start-vertex, end-vertex, Paired, Empty, DeadRow, LiveRow, InOrder}
-use Rattle.rowtests.specs.Order.{empty3, paired3, apart3, differ, mirrors, mirrored-by, live, in-order}
+use Rattle.rowtests.specs.Order.{empty3, paired3, apart3, differ, mirrors, mirrored-by, is-live, in-order}
 
 -- a number in 0..limit is one of these
 pub named-is : (z : ℤ) (limit : ℕ) → is-named (names z limit) ≡ true → (z ≡ pos (natAbs z)) × (natAbs z < limit)
@@ -78,8 +78,8 @@ module _ (H N : ℕ) (rows : List ℤ) (h : ℕ) where
           (i ∙ ap pos (sym j), rw j (names-below (pairOf rows h) H q), rw j t)
       go nothing q t = not-both false t refl
 
-  live-yes : paired3 rows h second third && apart3 rows h second third && live H N rows h second rows h ≡ true → LiveRow H N rows h
-  unfolding live
+  live-yes : paired3 rows h second third && apart3 rows h second third && is-live H N rows h second rows h ≡ true → LiveRow H N rows h
+  unfolding is-live
   live-yes e =
       let w = and3 (paired3 rows h second third) (apart3 rows h second third) ((is-named (names (startOf rows h) N) && is-named (names (endOf rows h) N)) && eqZ (endOf rows h) (startOf rows second) && mirrored-by rows h rows h (names (pairOf rows h) H)) e in
       let p = and3 (is-paired rows h) (is-paired rows second) (is-paired rows third) (w .0) in
@@ -113,8 +113,8 @@ module _ (H N : ℕ) (rows : List ℤ) (h : ℕ) where
       rw (names-at (pairOf rows h) H (partner rows h) (r .pair-is) (r .pair-in))
       (both3 (eqZ-yes _ _ (r .pair-back)) (eqZ-yes _ _ (r .pair-start)) (eqZ-yes _ _ (r .pair-end)))
 
-  is-live-yes : LiveRow H N rows h → paired3 rows h second third && apart3 rows h second third && live H N rows h second rows h ≡ true
-  unfolding live
+  is-live-yes : LiveRow H N rows h → paired3 rows h second third && apart3 rows h second third && is-live H N rows h second rows h ≡ true
+  unfolding is-live
   is-live-yes r =
       both3
       (both3 (is-paired-yes rows h (r .pair-is)) (is-paired-yes rows second (r .second-paired)) (is-paired-yes rows third (r .third-paired)))
@@ -125,7 +125,7 @@ module _ (H N : ℕ) (rows : List ℤ) (h : ℕ) where
   unfolding in-order
   in-order-yes e =
       ⊎-elim (λ d. inl (dead-yes d)) (λ l. inr (live-yes l))
-      (or-cases (empty3 rows h second third) (paired3 rows h second third && apart3 rows h second third && live H N rows h second rows h) e)
+      (or-cases (empty3 rows h second third) (paired3 rows h second third && apart3 rows h second third && is-live H N rows h second rows h) e)
 
   pub yes-in-order : InOrder H N rows h → in-order H N rows h ≡ true
   unfolding in-order

@@ -13,7 +13,8 @@ use Rattle.numbers.specs.Next.{next}
 use Rattle.numbers.proofs.NextLaws.{first-next, second-next, third-next}
 use Rattle.rows.specs.Halfedges.{start, end, pair, startOf, endOf, pairOf, is-empty, is-paired, lent-halfedges, rows-from}
 use Rattle.rows.proofs.Columns.{column-from, lent-from}
-use Rattle.rowtests.specs.Order.{empty3, paired3, apart3, differ, mirrored-by, live, in-order, first-failing, TriangleAt}
+use Rattle.rowtests.specs.Order.{empty3, paired3, apart3, differ, mirrored-by, is-live, in-order, first-failing}
+use Rattle.rowtests.specs.inner.Triangle.{TriangleAt}
 use Rattle.rowtests.proofs.Search.{three-pass, first-fails, second-fails, third-fails}
 
 mirrored-moved : (tri : List ℤ) (k : ℕ) (whole : List ℤ) (g : ℕ) (rows : List ℤ) (h : ℕ) → startOf tri k ≡ startOf whole g → endOf tri k ≡ endOf whole g → (w : Named) → mirrored-by tri k rows h w ≡ mirrored-by whole g rows h w
@@ -24,8 +25,8 @@ module _ (H N : ℕ) (rows : List ℤ) (t : ℕ) where
   abbrev tri : List ℤ
   tri = rows-from t rows
 
-  live-moved : (k j h : ℕ) → live H N tri k j rows h ≡ live H N rows (t + k) (t + j) rows h
-  unfolding live
+  live-moved : (k j h : ℕ) → is-live H N tri k j rows h ≡ is-live H N rows (t + k) (t + j) rows h
+  unfolding is-live
   live-moved k j h =
       rw (column-from start t k rows, column-from end t k rows, column-from start t j rows, column-from pair t k rows, mirrored-moved tri k rows (t + k) rows h (column-from start t k rows) (column-from end t k rows) (names (pairOf rows (t + k)) H))
 
@@ -40,16 +41,16 @@ module _ (H N : ℕ) (rows : List ℤ) (t : ℕ) where
 
   -- the tests of a triangle are the same from each of its rows
   module _ (first : t % 3 ≡ 0) where
-    pub order-first : in-order H N rows t ≡ empty3 tri 0 1 2 || (paired3 tri 0 1 2 && apart3 tri 0 1 2 && live H N tri 0 1 rows t)
+    pub order-first : in-order H N rows t ≡ empty3 tri 0 1 2 || (paired3 tri 0 1 2 && apart3 tri 0 1 2 && is-live H N tri 0 1 rows t)
     unfolding in-order
     order-first = rw (first-next t first, second-next t first, empty-moved, paired-moved, apart-moved, live-moved 0 1 t, add-zero t)
 
-    pub order-second : in-order H N rows (t + 1) ≡ empty3 tri 0 1 2 || (paired3 tri 0 1 2 && apart3 tri 0 1 2 && live H N tri 1 2 rows (t + 1))
+    pub order-second : in-order H N rows (t + 1) ≡ empty3 tri 0 1 2 || (paired3 tri 0 1 2 && apart3 tri 0 1 2 && is-live H N tri 1 2 rows (t + 1))
     unfolding in-order
     order-second =
         rw (second-next t first, third-next t first, empty-moved, paired-moved, apart-moved, live-moved 1 2 (t + 1), round3 (is-empty rows t) (is-empty rows (t + 1)) (is-empty rows (t + 2)), round3 (is-paired rows t) (is-paired rows (t + 1)) (is-paired rows (t + 2)), round3 (differ rows t (t + 1)) (differ rows (t + 1) (t + 2)) (differ rows (t + 2) t))
 
-    pub order-third : in-order H N rows (t + 2) ≡ empty3 tri 0 1 2 || (paired3 tri 0 1 2 && apart3 tri 0 1 2 && live H N tri 2 0 rows (t + 2))
+    pub order-third : in-order H N rows (t + 2) ≡ empty3 tri 0 1 2 || (paired3 tri 0 1 2 && apart3 tri 0 1 2 && is-live H N tri 2 0 rows (t + 2))
     unfolding in-order
     order-third =
         rw (third-next t first, first-next t first, empty-moved, paired-moved, apart-moved, live-moved 2 0 (t + 2), add-zero t, round3 (is-empty rows (t + 1)) (is-empty rows (t + 2)) (is-empty rows t), round3 (is-empty rows t) (is-empty rows (t + 1)) (is-empty rows (t + 2)), round3 (is-paired rows (t + 1)) (is-paired rows (t + 2)) (is-paired rows t), round3 (is-paired rows t) (is-paired rows (t + 1)) (is-paired rows (t + 2)), round3 (differ rows (t + 1) (t + 2)) (differ rows (t + 2) t) (differ rows t (t + 1)), round3 (differ rows t (t + 1)) (differ rows (t + 1) (t + 2)) (differ rows (t + 2) t))
@@ -65,32 +66,32 @@ module _ (H N : ℕ) (rows tri : List ℤ) (t : ℕ) (a : TriangleAt H rows tri 
   pub room : 3 ≤ lent-halfedges tri
   room = rw (a .part, lent-from t rows) (omega arith)
 
-  by-first : passes t ≡ empty3 tri 0 1 2 || (whole && live H N tri 0 1 rows t)
+  by-first : passes t ≡ empty3 tri 0 1 2 || (whole && is-live H N tri 0 1 rows t)
   by-first = rw (a .part) (order-first H N rows t (a .first))
 
-  by-second : passes (t + 1) ≡ empty3 tri 0 1 2 || (whole && live H N tri 1 2 rows (t + 1))
+  by-second : passes (t + 1) ≡ empty3 tri 0 1 2 || (whole && is-live H N tri 1 2 rows (t + 1))
   by-second = rw (a .part) (order-second H N rows t (a .first))
 
-  by-third : passes (t + 2) ≡ empty3 tri 0 1 2 || (whole && live H N tri 2 0 rows (t + 2))
+  by-third : passes (t + 2) ≡ empty3 tri 0 1 2 || (whole && is-live H N tri 2 0 rows (t + 2))
   by-third = rw (a .part) (order-third H N rows t (a .first))
 
   pub all-dead : empty3 tri 0 1 2 ≡ true → nothing ≡ first-failing passes 3 t
   all-dead e = three-pass passes t (rw (by-first, e)) (rw (by-second, e)) (rw (by-third, e))
 
   module _ (dead : empty3 tri 0 1 2 ≡ false) where
-    pub first-out : whole && live H N tri 0 1 rows t ≡ false → at t ≡ first-failing passes 3 t
+    pub first-out : whole && is-live H N tri 0 1 rows t ≡ false → at t ≡ first-failing passes 3 t
     first-out e = first-fails passes t (rw (by-first, dead, e))
 
-    module _ (this : whole && live H N tri 0 1 rows t ≡ true) where
+    module _ (this : whole && is-live H N tri 0 1 rows t ≡ true) where
       is-whole : whole ≡ true
-      is-whole = and2 whole (live H N tri 0 1 rows t) this .0
+      is-whole = and2 whole (is-live H N tri 0 1 rows t) this .0
 
-      pub second-out : live H N tri 1 2 rows (t + 1) ≡ false → at (t + 1) ≡ first-failing passes 3 t
+      pub second-out : is-live H N tri 1 2 rows (t + 1) ≡ false → at (t + 1) ≡ first-failing passes 3 t
       second-out e = second-fails passes t (rw (by-first, dead, this)) (rw (by-second, dead, is-whole, e))
 
-      module _ (second : live H N tri 1 2 rows (t + 1) ≡ true) where
-        pub third-out : live H N tri 2 0 rows (t + 2) ≡ false → at (t + 2) ≡ first-failing passes 3 t
+      module _ (second : is-live H N tri 1 2 rows (t + 1) ≡ true) where
+        pub third-out : is-live H N tri 2 0 rows (t + 2) ≡ false → at (t + 2) ≡ first-failing passes 3 t
         third-out e = third-fails passes t (rw (by-first, dead, this)) (rw (by-second, dead, is-whole, second)) (rw (by-third, dead, is-whole, e))
 
-        pub all-live : live H N tri 2 0 rows (t + 2) ≡ true → nothing ≡ first-failing passes 3 t
+        pub all-live : is-live H N tri 2 0 rows (t + 2) ≡ true → nothing ≡ first-failing passes 3 t
         all-live e = three-pass passes t (rw (by-first, dead, this)) (rw (by-second, dead, is-whole, second)) (rw (by-third, dead, is-whole, e))

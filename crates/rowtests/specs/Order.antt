@@ -1,14 +1,13 @@
 -- Whether a row is in order, as a test that computes: document 01's clauses one by one. That it holds exactly when the word
 -- `InOrder` does is proved (proofs/Right.antt).
-use mathlib.Core.Bool.{Bool, true, false, cond, _&&_, _||_, not}
+use mathlib.Core.Bool.{Bool, false, cond, _&&_, _||_, not}
 use mathlib.Core.List.{List}
-use mathlib.Core.Path.{_≡_}
-use Prim.Native.Nat.{ℕ, zero, suc, _+_, _%_, _≤_}
+use Prim.Native.Nat.{ℕ, zero, suc}
 use lib.IntN.{ℤ, pos}
 use Rattle.laws.specs.Integers.{eqZ}
 use Rattle.numbers.specs.Numbers.{Named, at, nothing, names, is-named}
-use Rattle.numbers.specs.Next.{next, most-halfedges}
-use Rattle.rows.specs.Halfedges.{startOf, endOf, pairOf, is-empty, is-paired, lent-halfedges, rows-from}
+use Rattle.numbers.specs.Next.{next}
+use Rattle.rows.specs.Halfedges.{startOf, endOf, pairOf, is-empty, is-paired}
 
 -- three rows are empty; have a pair of 0 or more; differ in their starts
 abbrev pub empty3 : List ℤ → ℕ → ℕ → ℕ → Bool
@@ -34,8 +33,8 @@ mirrored-by tri k rows h nothing = false
 
 -- row k of `tri`, which is half-edge h: start and end are in 0..N; it ends where row j starts; its pair is in 0..H, has h as its
 -- pair and its ends exchanged
-unfoldable pub live : ℕ → ℕ → List ℤ → ℕ → ℕ → List ℤ → ℕ → Bool
-live H N tri k j rows h =
+unfoldable pub is-live : ℕ → ℕ → List ℤ → ℕ → ℕ → List ℤ → ℕ → Bool
+is-live H N tri k j rows h =
     (is-named (names (startOf tri k) N) && is-named (names (endOf tri k) N))
     && eqZ (endOf tri k) (startOf tri j)
     && mirrored-by tri k rows h (names (pairOf tri k) H)
@@ -44,7 +43,7 @@ live H N tri k j rows h =
 unfoldable pub in-order : ℕ → ℕ → List ℤ → ℕ → Bool
 in-order H N rows h =
     empty3 rows h (next h) (next (next h))
-    || (paired3 rows h (next h) (next (next h)) && apart3 rows h (next h) (next (next h)) && live H N rows h (next h) rows h)
+    || (paired3 rows h (next h) (next (next h)) && apart3 rows h (next h) (next (next h)) && is-live H N rows h (next h) rows h)
 
 -- the first of n numbers from i on at which a test fails
 unfoldable pub first-failing : (ℕ → Bool) → ℕ → ℕ → Named
@@ -54,11 +53,3 @@ first-failing f (suc n) i = let rest = first-failing f n (suc i) in cond (f i) r
 -- the least row that is not in order
 abbrev pub least-out : ℕ → ℕ → List ℤ → Named
 least-out H N rows = first-failing (in-order H N rows) H 0
-
--- `tri` is the part of `rows` that starts at t, the first row of a triangle in use
-pub record TriangleAt (H : ℕ) (rows tri : List ℤ) (t : ℕ) : Type 0 where
-  pub part : tri ≡ rows-from t rows
-  pub first : t % 3 ≡ 0
-  pub in-use : t + 3 ≤ H
-  pub lent : H ≤ lent-halfedges rows
-  pub few : H ≤ most-halfedges

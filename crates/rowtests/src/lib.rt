@@ -3,7 +3,8 @@ ghost use mathlib.Core.Path.{_≡_};
 ghost use Prim.Native.Nat.{_+_, _<_, _≤_, _^_};
 ghost use Rattle.numbers.specs.Numbers.{halfedgeNamed, halfedgeNumber, names};
 ghost use Rattle.rows.specs.Halfedges.{lent-halfedges, pairOf};
-ghost use Rattle.rowtests.specs.Order.{empty3, paired3, apart3, mirrored-by, live, in-order, first-failing, TriangleAt};
+ghost use Rattle.rowtests.specs.Order.{empty3, paired3, apart3, mirrored-by, is-live, in-order, first-failing};
+ghost use Rattle.rowtests.specs.inner.Triangle.{TriangleAt};
 use numbers::Halfedge;
 use numbers::NamedHalfedge;
 use rows::corners;
@@ -56,7 +57,7 @@ fn is_live(
     vertices: usize,
 ) -> bool
     requires { ⌜ ((k < lent-halfedges (now tri)) × (j < lent-halfedges (now tri))) × ((halfedges ≤ lent-halfedges (now rows)) × (halfedgeNumber h < 2 ^ 31)) ⌝ }
-    ensures { λ r. ⌜ r ≡ live halfedges vertices (now (tri .entry)) k j (now (rows .entry)) (halfedgeNumber h) ⌝ }
+    ensures { λ r. ⌜ r ≡ is-live halfedges vertices (now (tri .entry)) k j (now (rows .entry)) (halfedgeNumber h) ⌝ }
 {
     corners::within(tri, k, vertices)
         & corners::joined(tri, k, j)

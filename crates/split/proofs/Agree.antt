@@ -9,10 +9,10 @@ use Rattle.answers.specs.Answers.{Said}
 use Rattle.answers.proofs.Laws.{first-value, second-value, read-back}
 use Rattle.net.specs.declared.Counts.{Counts}
 use Rattle.net.specs.Net.{Net}
-use Rattle.splitting.specs.Split.{Outcome, outcome, splitPinched}
-use Rattle.split.specs.declared.Split.{Split}
-use Rattle.split.specs.declared.Split.the-variants as S
-use Rattle.split.specs.Answer.{splitSaid}
+use Rattle.splitting.specs.Split.{SplitOutcome, split-outcome, splitPinched}
+use Rattle.splitcleared.specs.declared.Split.{Split}
+use Rattle.splitcleared.specs.declared.Split.the-variants as S
+use Rattle.splitcleared.specs.Answer.{splitSaid}
 
 -- the answer, read back from what is said
 abbrev answer-of : Said → Split
@@ -32,13 +32,13 @@ told S.NoRoom = refl
 told S.OpenFan = refl
 
 pub split-agree : (c : Counts) (n : Net) (work visit : List ℕ) (a b : Split) (h h' : List ℤ) (p p' w w' v v' : List ℕ)
-    → outcome (splitSaid a) h p w v ≡ splitPinched c n work visit → outcome (splitSaid b) h' p' w' v' ≡ splitPinched c n work visit
+    → split-outcome (splitSaid a) h p w v ≡ splitPinched c n work visit → split-outcome (splitSaid b) h' p' w' v' ≡ splitPinched c n work visit
     → (a ≡ b) × (h ≡ h') × (p ≡ p') × (w ≡ w') × (v ≡ v')
 split-agree c n work visit a b h h' p p' w w' v v' e f =
     let q = e ∙ sym f in (
-      read-back splitSaid answer-of told a b (ap (λ (o : Outcome). o .said) q),
-      ap (λ (o : Outcome). o .halfedges) q,
-      ap (λ (o : Outcome). o .positions) q,
-      ap (λ (o : Outcome). o .work) q,
-      ap (λ (o : Outcome). o .visit) q,
+      read-back splitSaid answer-of told a b (ap (λ (o : SplitOutcome). o .said) q),
+      ap (λ (o : SplitOutcome). o .halfedges) q,
+      ap (λ (o : SplitOutcome). o .positions) q,
+      ap (λ (o : SplitOutcome). o .work) q,
+      ap (λ (o : SplitOutcome). o .visit) q,
     )

@@ -15,19 +15,19 @@ use Rattle.net.specs.Sound.{Sound}
 use Rattle.net.proofs.Shape.{shaped-yes}
 use Rattle.rowtests.specs.Order.{least-out}
 use Rattle.soundness.proofs.Told.{nothing-out}
-use Rattle.splitting.specs.Split.{outcome, split-sound, buffers-long, splitPinched}
+use Rattle.splitting.specs.Split.{split-outcome, split-sound, buffers-long, splitPinched}
 
 module _ (c : Counts) (n : Net) (work visit : List ℕ) where
-  pub said-shape : is-shaped c n ≡ false → outcome shape (n .halfedges) (n .positions) work visit ≡ splitPinched c n work visit
+  pub said-shape : is-shaped c n ≡ false → split-outcome shape (n .halfedges) (n .positions) work visit ≡ splitPinched c n work visit
   unfolding splitPinched
   said-shape e = rw e
 
-  pub said-short : is-shaped c n ≡ true → buffers-long (c .halfedges) (c .vertices) work visit ≡ false → outcome short-buffer (n .halfedges) (n .positions) work visit ≡ splitPinched c n work visit
+  pub said-short : is-shaped c n ≡ true → buffers-long (c .halfedges) (c .vertices) work visit ≡ false → split-outcome short-buffer (n .halfedges) (n .positions) work visit ≡ splitPinched c n work visit
   unfolding splitPinched
   said-short e f = rw (e, f)
 
   pub said-unsound : is-shaped c n ≡ true → buffers-long (c .halfedges) (c .vertices) work visit ≡ true → (h : ℕ) → least-out (c .halfedges) (c .vertices) (n .halfedges) ≡ at h
-      → outcome (unsound h) (n .halfedges) (n .positions) work visit ≡ splitPinched c n work visit
+      → split-outcome (unsound h) (n .halfedges) (n .positions) work visit ≡ splitPinched c n work visit
   unfolding splitPinched
   said-unsound e f h g = rw (e, f, g)
 

@@ -8,9 +8,9 @@ use Rattle.numbers.specs.Next.{next}
 use Rattle.rows.specs.Halfedges.{column, set-column, append-row}
 use Rattle.rows.specs.Triples.{triple, put-triple, zero-triples}
 use Rattle.net.specs.Counts.{is-shaped, triangle-capacity-over, vertex-capacity-over, property-capacity-over}
-use Rattle.rowtests.specs.Order.{live, in-order, first-failing}
+use Rattle.rowtests.specs.Order.{is-live, in-order, first-failing}
 use Rattle.turning.specs.Walk.{walk, walk-end}
-use Rattle.splitting.specs.Steps.{flag-walk, relabel-walk, count-step as tally-step, count as tally, split-step, split-rows}
+use Rattle.splitting.specs.Steps.{flag-walk, relabel-walk, count-step as tally-step, count-rows, split-step, split-rows}
 use Rattle.splitting.specs.Split.{split-sound, splitPinched}
 use Rattle.digits.specs.Steps.{after, digit, more, count, number, hex-from, count-then, number-then, hex-then}
 use Rattle.digits.specs.Written.{glyph, decimal-in}
@@ -76,5 +76,5 @@ cases =
     ∷ []
 
 pub cases-hold : map (λ (k : Case). reportOf (text (k .file))) cases ≡ map (λ (k : Case). text (k .comes)) cases
-unfolding reportOf split-with found header-of body-of lines-of count-step position-step halfedge-step count-then number-then hex-then count number more hex-from after digit laid append-row splitPinched split-sound tally tally-step split-rows split-step flag-walk relabel-walk walk walk-end next ℕ-discrete column set-column triple put-triple zero-triples is-shaped triangle-capacity-over vertex-capacity-over property-capacity-over live in-order first-failing text-of commas behind-commas decimal-in glyph euler live-halfedges live-triangles text bytes-from
+unfolding reportOf split-with found header-of body-of lines-of count-step position-step halfedge-step count-then number-then hex-then count number more hex-from after digit laid append-row splitPinched split-sound count-rows tally-step split-rows split-step flag-walk relabel-walk walk walk-end next ℕ-discrete column set-column triple put-triple zero-triples is-shaped triangle-capacity-over vertex-capacity-over property-capacity-over is-live in-order first-failing text-of commas behind-commas decimal-in glyph euler live-halfedges live-triangles text bytes-from
 cases-hold = refl

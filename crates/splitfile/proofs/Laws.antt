@@ -20,9 +20,9 @@ use Rattle.net.specs.Sound.{Live}
 use Rattle.net.proofs.Shape.{capacities}
 use Rattle.rowtests.specs.Order.{least-out}
 use Rattle.turning.proofs.Count.{count-le}
-use Rattle.splitting.specs.Split.{Outcome as Parted, outcome, buffers-long, splitPinched}
-use Rattle.splitting.specs.Told.{IsDone, IsFull}
-use Rattle.splitting.proofs.Told.{split-told}
+use Rattle.splitting.specs.Split.{SplitOutcome, split-outcome, buffers-long, splitPinched}
+use Rattle.splitting.specs.Told.{SplitDone, IsFull}
+use Rattle.splitting.proofs.Told.{split-in-words}
 use Rattle.split.proofs.Entry.{said-shape, said-short, said-unsound, sound-here, work-long, visit-long}
 use Rattle.meshfile.specs.declared.Mesh.{Mesh}
 use Rattle.meshfile.specs.declared.Mesh.the-variants as M
@@ -43,10 +43,10 @@ pub record Fits (vertices : ℕ) (o : Outcome) (visit : List ℕ) : Type 0 where
 
 -- ---- the split
 module _ (c : Counts) (n : Net) (work visit : List ℕ) (few : c .halfedges ≤ 768) (vertices-few : c .vertices ≤ most-vertices) where
-  abbrev parted : Parted
+  abbrev parted : SplitOutcome
   parted = splitPinched c n work visit
 
-  done-fits : (added steps : ℕ) → IsDone c n work visit parted added steps → Fits (c .vertices) (outcome-of (parted .said)) (parted .visit)
+  done-fits : (added steps : ℕ) → SplitDone c n work visit parted added steps → Fits (c .vertices) (outcome-of (parted .said)) (parted .visit)
   done-fits added steps d =
       let s : steps ≤ c .halfedges = count-le (Live (c .halfedges) (n .halfedges)) (c .halfedges) steps (d .steps-live) in
       let l : steps ≤ length (parted .visit) = omega (arith, d .steps-are, length-take steps (parted .visit)) in
@@ -79,10 +79,10 @@ module _ (c : Counts) (n : Net) (work visit : List ℕ) (few : c .halfedges ≤ 
           ⊎-elim
           (λ t. done-fits (t .0) (t .1) (t .2))
           full-fits
-          (split-told c n work visit (sound-here c n work visit s e) (work-long c n work visit b) (visit-long c n work visit b))
+          (split-in-words c n work visit (sound-here c n work visit s e) (work-long c n work visit b) (visit-long c n work visit b))
 
 -- a split as the program makes it, and as the code finds it
-module _ (vertices triangles : ℕ) (rows : List ℤ) (positions : List ℕ) {rows' : List ℤ} {positions' work visit : List ℕ} {s : Said} {o : Outcome} (e : outcome s rows' positions' work visit ≡ split-with vertices triangles rows positions) (q : o ≡ outcome-of s) where
+module _ (vertices triangles : ℕ) (rows : List ℤ) (positions : List ℕ) {rows' : List ℤ} {positions' work visit : List ℕ} {s : Said} {o : Outcome} (e : split-outcome s rows' positions' work visit ≡ split-with vertices triangles rows positions) (q : o ≡ outcome-of s) where
   pub fits-here : vertices ≤ 256 → triangles ≤ 256 → Fits vertices o visit
   unfolding split-with
   fits-here v t =

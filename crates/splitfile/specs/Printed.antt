@@ -11,7 +11,7 @@ use Rattle.rows.specs.Halfedges.{width, append-row}
 use Rattle.rows.specs.Triples.{put-triple}
 use Rattle.net.specs.declared.Counts.{Counts}
 use Rattle.net.specs.Net.{Net, net}
-use Rattle.splitting.specs.Split.{Outcome as Parted, splitPinched}
+use Rattle.splitting.specs.Split.{SplitOutcome, splitPinched}
 use Rattle.meshfile.specs.Steps.{Found, holding, too-large, first-bad, found}
 use Rattle.meshfile.specs.Told.{limits-of, laid}
 use Rattle.report.specs.declared.Outcome.{Outcome}
@@ -52,11 +52,11 @@ no-work = replicate (768 + 256) 0
 abbrev pub no-visit : List ℕ
 no-visit = replicate 768 0
 
-unfoldable pub split-with : ℕ → ℕ → List ℤ → List ℕ → Parted
+unfoldable pub split-with : ℕ → ℕ → List ℤ → List ℕ → SplitOutcome
 split-with vertices triangles halfedges positions = splitPinched (counts vertices triangles) (lent halfedges positions) no-work no-visit
 
 -- the report on a net that was split
-abbrev pub text-after : ℕ → ℕ → Parted → List ℕ
+abbrev pub text-after : ℕ → ℕ → SplitOutcome → List ℕ
 text-after vertices triangles o =
     text-of (outcome-of (o .said)) (o .visit) (euler (vertices-after vertices (outcome-of (o .said))) triangles (o .halfedges))
 

@@ -5,14 +5,14 @@ ghost use mathlib.Core.Path.{_≡_};
 ghost use Prim.Native.Nat.{_*_, _≤_};
 ghost use lib.ListN.{length};
 ghost use Rattle.rows.specs.Halfedges.{lent-halfedges};
-ghost use Rattle.split.specs.Answer.{splitSaid};
+ghost use Rattle.splitcleared.specs.Answer.{splitSaid};
 ghost use Rattle.texts.specs.Appended.{Appended};
 ghost use Rattle.splitfile.specs.Printed.{outcome-of, vertices-after, split-with, text-after, reportOf, printed};
 use meshfile::Mesh;
 use net::Counts;
 use report::Outcome;
 use rows::halfedges::WIDTH;
-use split::Split;
+use splitcleared::Split;
 
 // What is reported of the split's answer.
 fn outcome_of(answer: Split) -> Outcome

@@ -1,4 +1,4 @@
--- Splitting a sound net, past the checks: done, as `IsDone` has it in words, with the free rows kept; or there is no room.
+-- Splitting a sound net, past the checks: done, as `SplitDone` has it in words, with the free rows kept; or there is no room.
 use mathlib.Core.Path.{_≡_, refl, sym, ap, _∙_}
 use mathlib.Core.List.{List}
 use mathlib.Core.Logic.{_⊎_, inl, inr}
@@ -17,16 +17,16 @@ use Rattle.net.proofs.Shape.{shaped-true, capacity-same}
 use Rattle.rowtests.specs.Order.{least-out}
 use Rattle.soundness.proofs.Told.{least-is}
 use Rattle.turning.proofs.Count.{count-le}
-use Rattle.splitting.specs.Split.{Outcome, split-sound, splitPinched}
+use Rattle.splitting.specs.Split.{SplitOutcome, split-sound, splitPinched}
 use Rattle.splitting.specs.Promise.{IsSplit}
-use Rattle.splitting.specs.Told.{IsDone, IsFull}
-use Rattle.splitting.proofs.Told.{split-told}
+use Rattle.splitting.specs.Told.{SplitDone, IsFull}
+use Rattle.splitting.proofs.Told.{split-in-words}
 use Rattle.split.proofs.Entry.{said-sound}
-use Rattle.splitkept.specs.Kept.{FreeKept}
+use Rattle.splitkept.specs.inner.Kept.{FreeKept}
 use Rattle.rows.proofs.Agree.{rows-by-columns, triples-by-rows}
 
 module _ (c : Counts) (n : Net) (work visit : List ℕ) (sound : Sound c n) (work-long : c .halfedges + c .vertices ≤ length work) (visit-long : c .halfedges ≤ length visit) where
-  abbrev o : Outcome
+  abbrev o : SplitOutcome
   o = split-sound (c .halfedges) (c .vertices) (n .halfedges) (n .positions) work visit
 
   none-out : (w : Named) → least-out (c .halfedges) (c .vertices) (n .halfedges) ≡ w → least-out (c .halfedges) (c .vertices) (n .halfedges) ≡ nothing
@@ -37,7 +37,7 @@ module _ (c : Counts) (n : Net) (work visit : List ℕ) (sound : Sound c n) (wor
   past-checks =
       said-sound c n work visit (shaped-true c n (sound .shaped)) (both2 (le-leb (c .halfedges + c .vertices) (length work) work-long) (le-leb (c .halfedges) (length visit) visit-long)) (none-out (least-out (c .halfedges) (c .vertices) (n .halfedges)) refl)
 
-  module _ (added steps : ℕ) (d : IsDone c n work visit o added steps) where
+  module _ (added steps : ℕ) (d : SplitDone c n work visit o added steps) where
     s : IsSplit (c .halfedges) (c .vertices) (n .halfedges) (n .positions) (o .halfedges) (o .positions) (take steps (o .visit)) added
     s = d .split
 
@@ -72,9 +72,9 @@ module _ (c : Counts) (n : Net) (work visit : List ℕ) (sound : Sound c n) (wor
       visit-lent = list-lent;
     }
 
-  pub split-left : ((added : ℕ) × (steps : ℕ) × (IsDone c n work visit o added steps × FreeKept c n visit o added steps)) ⊎ IsFull c n work visit o
-  split-left = go (rw (← past-checks) at (split-told c n work visit sound work-long visit-long))
+  pub split-left : ((added : ℕ) × (steps : ℕ) × (SplitDone c n work visit o added steps × FreeKept c n visit o added steps)) ⊎ IsFull c n work visit o
+  split-left = go (rw (← past-checks) at (split-in-words c n work visit sound work-long visit-long))
     where
-      go : ((added : ℕ) × (steps : ℕ) × IsDone c n work visit o added steps) ⊎ IsFull c n work visit o → ((added : ℕ) × (steps : ℕ) × (IsDone c n work visit o added steps × FreeKept c n visit o added steps)) ⊎ IsFull c n work visit o
+      go : ((added : ℕ) × (steps : ℕ) × SplitDone c n work visit o added steps) ⊎ IsFull c n work visit o → ((added : ℕ) × (steps : ℕ) × (SplitDone c n work visit o added steps × FreeKept c n visit o added steps)) ⊎ IsFull c n work visit o
       go (inl (added, steps, d)) = inl (added, steps, (d, free-kept added steps d))
       go (inr f) = inr f

@@ -22,7 +22,7 @@ use Rattle.turning.proofs.Least.{Least, None, least}
 use Rattle.turning.proofs.Count.{count-hit, count-miss, count-unique}
 use Rattle.turning.proofs.Orbit.{Period, period, reach-refl, reach-sym, live-reach, lead-unique}
 use Rattle.turning.proofs.Walk.{walk-once, walk-only}
-use Rattle.splitting.specs.Needs.{SoundRows}
+use Rattle.splitting.specs.inner.Needs.{SoundRows}
 use Rattle.splitting.specs.Steps.{relabel-walk, State, state, first-fan, later-fan, split-fan, split-row, split-step, split-rows}
 use Rattle.splitting.proofs.Inv.{Done, flag-clear, flag-set, start-reach}
 use Rattle.splitting.proofs.Net.{T, same, inV}

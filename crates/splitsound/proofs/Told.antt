@@ -26,15 +26,15 @@ use Rattle.soundness.proofs.Told.{least-is}
 use Rattle.turning.specs.Fan.{Count}
 use Rattle.turning.proofs.Count.{count-le, count-total, count-unique}
 use Rattle.turning.proofs.Orbit.{live-iter}
-use Rattle.splitting.specs.Needs.{SoundRows}
+use Rattle.splitting.specs.inner.Needs.{SoundRows}
 use Rattle.splitting.specs.Steps.{State}
-use Rattle.splitting.specs.Split.{Outcome, done-with, all-split, written, split-sound, splitPinched}
+use Rattle.splitting.specs.Split.{SplitOutcome, done-with, all-split, written, split-sound, splitPinched}
 use Rattle.splitting.specs.Promise.{Fans, Starts}
-use Rattle.splitting.specs.Told.{IsDone, IsFull}
+use Rattle.splitting.specs.Told.{SplitDone, IsFull}
 use Rattle.splitting.proofs.Inv.{start-reach}
 use Rattle.splitting.proofs.Net.{T, row-of, same, inV, sound-rows}
 use Rattle.splitting.proofs.Split.{ok-count}
-use Rattle.splitting.proofs.Told.{end-ok, fans-there, starts-there, by-pass, split-told, split-full}
+use Rattle.splitting.proofs.Told.{end-ok, fans-there, starts-there, by-pass, split-in-words, split-full}
 use Rattle.splitsound.specs.Demand.{Leads, First, Later, InTurn, IsSplitUp, Demand3}
 use Rattle.splitsound.proofs.Order.{Ordered, all-ordered}
 
@@ -51,7 +51,7 @@ module _ (c : Counts) (n : Net) (work visit : List ℕ) (s : Sound c n) (work-lo
   abbrev S : SoundRows H N rows
   S = sound-rows c n s
 
-  abbrev result : Outcome
+  abbrev result : SplitOutcome
   result = splitPinched c n work visit
 
   abbrev end : State
@@ -99,27 +99,27 @@ module _ (c : Counts) (n : Net) (work visit : List ℕ) (s : Sound c n) (work-lo
       (λ added a e. past-checks ∙ (rw (le-leb added (vertex-capacity n - N) (omega (arith, up))) at e))
 
   -- what the answer's numbers are
-  module _ {added steps : ℕ} (d : IsDone c n work visit result added steps) where
+  module _ {added steps : ℕ} (d : SplitDone c n work visit result added steps) where
     added-is : added ≡ F - D
     added-is = omega (arith, d .split .added-up F D F-are D-are)
 
     steps-is : steps ≡ L .0
     steps-is = count-unique (Live H rows) H steps (L .0) (d .steps-live) (L .1)
 
-  done-with-room : N + (F - D) ≤ vertex-capacity n → IsDone c n work visit result (F - D) (L .0)
-  done-with-room room = go (split-told c n work visit s work-long visit-long)
+  done-with-room : N + (F - D) ≤ vertex-capacity n → SplitDone c n work visit result (F - D) (L .0)
+  done-with-room room = go (split-in-words c n work visit s work-long visit-long)
     where
-      go : ((added : ℕ) × (steps : ℕ) × IsDone c n work visit result added steps) ⊎ IsFull c n work visit result → IsDone c n work visit result (F - D) (L .0)
-      go (inl d) = subst (λ (a : ℕ). IsDone c n work visit result a (L .0)) (added-is (d .2)) (subst (λ (k : ℕ). IsDone c n work visit result (d .0) k) (steps-is (d .2)) (d .2))
+      go : ((added : ℕ) × (steps : ℕ) × SplitDone c n work visit result added steps) ⊎ IsFull c n work visit result → SplitDone c n work visit result (F - D) (L .0)
+      go (inl d) = subst (λ (a : ℕ). SplitDone c n work visit result a (L .0)) (added-is (d .2)) (subst (λ (k : ℕ). SplitDone c n work visit result (d .0) k) (steps-is (d .2)) (d .2))
       go (inr f) = absurd (omega (arith, split-full c n work visit s work-long visit-long F D F-are D-are .0 (f .said)))
 
   full-without : vertex-capacity n < N + (F - D) → IsFull c n work visit result
-  full-without none = go (split-told c n work visit s work-long visit-long)
+  full-without none = go (split-in-words c n work visit s work-long visit-long)
     where
       said : result .said ≡ no-room
       said = split-full c n work visit s work-long visit-long F D F-are D-are .1 (omega (arith, s .shaped .vertices-fit))
 
-      go : ((added : ℕ) × (steps : ℕ) × IsDone c n work visit result added steps) ⊎ IsFull c n work visit result → IsFull c n work visit result
+      go : ((added : ℕ) × (steps : ℕ) × SplitDone c n work visit result added steps) ⊎ IsFull c n work visit result → IsFull c n work visit result
       go (inl d) = numbers-differ (sym (d .2 .said) ∙ said) (λ z. omega arith)
       go (inr f) = f
 
@@ -128,11 +128,11 @@ module _ (c : Counts) (n : Net) (work visit : List ℕ) (s : Sound c n) (work-lo
 
   -- the order of it
   module _ (room : N + (F - D) ≤ vertex-capacity n) where
-    abbrev d : IsDone c n work visit result (F - D) (L .0)
+    abbrev d : SplitDone c n work visit result (F - D) (L .0)
     d = done-with-room room
 
     rows-are : result .halfedges ≡ end .halfedges
-    rows-are = ap (λ (o : Outcome). o .halfedges) (result-is room)
+    rows-are = ap (λ (o : SplitOutcome). o .halfedges) (result-is room)
 
     first-leads : (h : ℕ) → First H rows h → Leads H rows h
     first-leads h f = (f .live, λ k. f .least _ (live-iter (T S) k h (f .live)) (start-reach (T S) (same S) (inV S) (f .live) (k, refl)))
@@ -156,12 +156,12 @@ module _ (c : Counts) (n : Net) (work visit : List ℕ) (s : Sound c n) (work-lo
     -- the steps that the answer tells are those made
     steps-made : end .steps ≡ L .0
     steps-made =
-        let e : done-with (end .added) (end .steps) ≡ done-with (F - D) (L .0) = sym (ap (λ (o : Outcome). o .said) (result-is room)) ∙ d .said in
+        let e : done-with (end .added) (end .steps) ≡ done-with (F - D) (L .0) = sym (ap (λ (o : SplitOutcome). o .said) (result-is room)) ∙ d .said in
         ap second-value e
 
     visits-are : take (L .0) (result .visit) ≡ O .visits
     visits-are =
-        ap (λ (o : Outcome). take (L .0) (o .visit)) (result-is room) ∙ ap (take (L .0)) (O .written)
+        ap (λ (o : SplitOutcome). take (L .0) (o .visit)) (result-is room) ∙ ap (take (L .0)) (O .written)
         ∙ front-written visit (O .visits) (L .0) (O .length-is ∙ steps-made) (omega (arith, count-le (Live H rows) H (L .0) (L .1)))
 
     split-up : IsSplitUp c n work visit result (F - D) (L .0)
@@ -171,7 +171,7 @@ module _ (c : Counts) (n : Net) (work visit : List ℕ) (s : Sound c n) (work-lo
   holds = record {
     fans = F;
     starts = D;
-    live = L .0;
+    live-halfedges = L .0;
     fans-are = F-are;
     starts-are = D-are;
     live-are = L .1;
@@ -181,5 +181,5 @@ module _ (c : Counts) (n : Net) (work visit : List ℕ) (s : Sound c n) (work-lo
   }
 
   -- demand 3: of any result that the entry's contract allows
-  pub demand-3 : (o : Outcome) → o ≡ splitPinched c n work visit → Demand3 c n work visit o
+  pub demand-3 : (o : SplitOutcome) → o ≡ splitPinched c n work visit → Demand3 c n work visit o
   demand-3 o e = subst (Demand3 c n work visit) (sym e) holds

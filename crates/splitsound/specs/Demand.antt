@@ -13,9 +13,9 @@ use Rattle.net.specs.Net.{Net}
 use Rattle.net.specs.Counts.{vertex-capacity}
 use Rattle.net.specs.Sound.{start-vertex, turn, Live}
 use Rattle.turning.specs.Fan.{iter, Lead, Count}
-use Rattle.splitting.specs.Split.{Outcome}
+use Rattle.splitting.specs.Split.{SplitOutcome}
 use Rattle.splitting.specs.Promise.{Fans, Starts}
-use Rattle.splitting.specs.Told.{IsDone, IsFull}
+use Rattle.splitting.specs.Told.{SplitDone, IsFull}
 
 -- h is the least of its fan
 abbrev pub Leads : ℕ → List ℤ → ℕ → Type 0
@@ -57,20 +57,20 @@ FanByFan H rows (suc i) visits =
     ⊎ ((¬ Leads H rows i) × FanByFan H rows i visits)
 
 -- answer 0
-pub record IsSplitUp (c : Counts) (n : Net) (work visit : List ℕ) (o : Outcome) (added steps : ℕ) : Type 0 where
-  pub done : IsDone c n work visit o added steps
+pub record IsSplitUp (c : Counts) (n : Net) (work visit : List ℕ) (o : SplitOutcome) (added steps : ℕ) : Type 0 where
+  pub done : SplitDone c n work visit o added steps
   pub in-turn : InTurn (c .halfedges) (c .vertices) (n .halfedges) (o .halfedges) (n .positions) (o .positions) added
   pub fan-by-fan : FanByFan (c .halfedges) (n .halfedges) (c .halfedges) (take steps (o .visit))
 
 -- the net has so many fans, distinct starts and live half-edges; where the fans less the starts find room the answer is 0, with that
 -- number and the live half-edges, else 6
-pub record Demand3 (c : Counts) (n : Net) (work visit : List ℕ) (o : Outcome) : Type 0 where
+pub record Demand3 (c : Counts) (n : Net) (work visit : List ℕ) (o : SplitOutcome) : Type 0 where
   pub fans : ℕ
   pub starts : ℕ
-  pub live : ℕ
+  pub live-halfedges : ℕ
   pub fans-are : Fans (c .halfedges) (n .halfedges) fans
   pub starts-are : Starts (c .halfedges) (c .vertices) (n .halfedges) starts
-  pub live-are : Count (Live (c .halfedges) (n .halfedges)) (c .halfedges) live
+  pub live-are : Count (Live (c .halfedges) (n .halfedges)) (c .halfedges) live-halfedges
   pub no-fewer : starts ≤ fans
-  pub with-room : c .vertices + (fans - starts) ≤ vertex-capacity n → IsSplitUp c n work visit o (fans - starts) live
+  pub with-room : c .vertices + (fans - starts) ≤ vertex-capacity n → IsSplitUp c n work visit o (fans - starts) live-halfedges
   pub without : vertex-capacity n < c .vertices + (fans - starts) → IsFull c n work visit o

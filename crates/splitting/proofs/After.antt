@@ -16,7 +16,7 @@ use Rattle.net.proofs.Sound.{empty-not-live, live-row-live, partner-live, next-
 use Rattle.turning.specs.Fan.{Reach}
 use Rattle.turning.proofs.Orbit.{reach-sym}
 use Rattle.turning.proofs.Fans.{fan-start}
-use Rattle.splitting.specs.Needs.{SoundRows}
+use Rattle.splitting.specs.inner.Needs.{SoundRows}
 use Rattle.splitting.specs.Promise.{IsSplit}
 use Rattle.splitting.proofs.Net.{T, row-of, sound-rows}
 

@@ -14,8 +14,8 @@ use Rattle.rows.specs.Halfedges.{startOf}
 use Rattle.net.specs.Sound.{start-vertex, turn, Live}
 use Rattle.turning.specs.Walk.{walk, walk-end}
 use Rattle.turning.proofs.Walk.{walk-home}
-use Rattle.splitting.specs.Needs.{SoundRows}
-use Rattle.splitting.specs.Steps.{noted, Tallied, tallied, unclosed, one-more, if-closed, count-fan, count-row, count-step, and-then, count}
+use Rattle.splitting.specs.inner.Needs.{SoundRows}
+use Rattle.splitting.specs.Steps.{noted, Tallied, tallied, unclosed, one-more, if-closed, count-fan, count-row, count-step, and-then, count-rows}
 use Rattle.splitting.specs.Promise.{Fans, Starts}
 use Rattle.splitting.proofs.Inv.{Done, Inv, init, flag-clear, flag-set, mark-set, skip, first, later, start-here, end-count, put, put-wrote}
 use Rattle.splitting.proofs.Net.{T, row-of, same, inV, start-live}
@@ -130,10 +130,10 @@ module _ {H N : ℕ} {rows : List ℤ} {work₀ : List ℕ} (S : SoundRows H N r
   counted-up work added K F D a b = omega (arith, K .added-is, end-count (T S) (same S) (inV S) (K .inv) F D a b)
 
 module _ {H N : ℕ} {rows : List ℤ} (work₀ : List ℕ) (S : SoundRows H N rows) (long : H + N ≤ length work₀) where
-  pub count-good : ((k : ℕ) → k < H + N → getD work₀ k 0 ≡ 0) → (i : ℕ) → i ≤ H → Good H N rows work₀ i (count H N rows i work₀)
-  unfolding count
+  pub count-good : ((k : ℕ) → k < H + N → getD work₀ k 0 ≡ 0) → (i : ℕ) → i ≤ H → Good H N rows work₀ i (count-rows H N rows i work₀)
+  unfolding count-rows
   count-good clear zero b = count-begins S long clear
-  count-good clear (suc i) b = go (count H N rows i work₀) (count-good clear i (omega arith))
+  count-good clear (suc i) b = go (count-rows H N rows i work₀) (count-good clear i (omega arith))
     where
       go : (t : Tallied) → Good H N rows work₀ i t → Good H N rows work₀ (suc i) (and-then t (count-step H N rows i))
       go (tallied work added) K = count-step-good S long i work added b K

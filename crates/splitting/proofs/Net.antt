@@ -18,7 +18,7 @@ use Rattle.net.proofs.Sound.{live-row, turn-live, turn-start, live-or-dead, par
 use Rattle.net.proofs.Shape.{within}
 use Rattle.turning.specs.Fan.{Turning}
 use Rattle.turning.proofs.Fans.{turning}
-use Rattle.splitting.specs.Needs.{SoundRows, Round}
+use Rattle.splitting.specs.inner.Needs.{SoundRows, Round}
 
 pub sound-rows : (c : Counts) (n : Net) → Sound c n → SoundRows (c .halfedges) (c .vertices) (n .halfedges)
 sound-rows c n s = let w = within c n (s .shaped) in record { thirds = w .halfedges-thirds; lent = w .halfedges-lent; few = w .halfedges-most; vertices-few = w .vertices-most; in-order = s .in-order }

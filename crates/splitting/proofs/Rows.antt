@@ -14,7 +14,7 @@ use Rattle.net.specs.Sound.{start-vertex, partner, Live}
 use Rattle.net.proofs.Sound.{partner-live, pair-involution, end-start}
 use Rattle.turning.specs.Fan.{occ}
 use Rattle.turning.proofs.Occ.{occ-head, occ-tail, occ-out, occ-in}
-use Rattle.splitting.specs.Needs.{SoundRows}
+use Rattle.splitting.specs.inner.Needs.{SoundRows}
 use Rattle.splitting.specs.Steps.{flag-walk, relabel, relabel-walk}
 use Rattle.splitting.proofs.Net.{row-of}
 

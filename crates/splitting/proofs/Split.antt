@@ -21,7 +21,7 @@ use Rattle.turning.specs.Fan.{Turning, occ}
 use Rattle.turning.specs.Walk.{walk}
 use Rattle.turning.proofs.Orbit.{live-reach, reach-sym, reach-dec}
 use Rattle.turning.proofs.Walk.{walk-only}
-use Rattle.splitting.specs.Needs.{SoundRows}
+use Rattle.splitting.specs.inner.Needs.{SoundRows}
 use Rattle.splitting.specs.Steps.{flag-walk, noted, relabel-walk, State, state, first-fan, later-fan, split-fan, split-row, split-step, split-rows}
 use Rattle.splitting.specs.Promise.{Fans, Starts, IsSplit}
 use Rattle.splitting.proofs.Inv.{Done, From, Wrote, Inv, init, flag-clear, flag-set, mark-set, skip, first, later, start-here, fan-fits, end-fans, end-once, end-only, end-count}

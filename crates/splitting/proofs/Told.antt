@@ -1,4 +1,4 @@
--- Demand 3. Splitting a sound net with buffers long enough is done, as `IsDone` has it in words, or there is no room; and there is no
+-- Demand 3. Splitting a sound net with buffers long enough is done, as `SplitDone` has it in words, or there is no room; and there is no
 -- room exactly when the fans less the distinct start vertices exceed the free rows. No fan of a sound net is left open: answer 9 is
 -- never given past the soundness check. And two outcomes that the contract allows agree.
 use mathlib.Core.Path.{_≡_, refl, sym, ap, _∙_, subst}
@@ -31,11 +31,11 @@ use Rattle.turning.specs.Fan.{Lead, IsStart, Count}
 use Rattle.turning.proofs.Count.{count-le, count-total}
 use Rattle.turning.proofs.Occ.{count-length}
 use Rattle.turning.proofs.Orbit.{lead-dec, is-start-dec}
-use Rattle.splitting.specs.Needs.{SoundRows}
-use Rattle.splitting.specs.Steps.{Tallied, tallied, unclosed, count, State, state, split-rows}
-use Rattle.splitting.specs.Split.{Outcome, outcome, done-with, all-split, written, none-free, by-count, split-sound, by-order, buffers-long, splitPinched}
+use Rattle.splitting.specs.inner.Needs.{SoundRows}
+use Rattle.splitting.specs.Steps.{Tallied, tallied, unclosed, count-rows, State, state, split-rows}
+use Rattle.splitting.specs.Split.{SplitOutcome, split-outcome, done-with, all-split, written, none-free, by-count, split-sound, by-order, buffers-long, splitPinched}
 use Rattle.splitting.specs.Promise.{Fans, Starts, IsSplit}
-use Rattle.splitting.specs.Told.{IsDone, IsFull}
+use Rattle.splitting.specs.Told.{SplitDone, IsFull}
 use Rattle.splitting.proofs.Net.{T, sound-rows}
 use Rattle.splitting.proofs.Split.{Ok, rows-ok, begin-ok, ok-split, ok-count}
 use Rattle.splitting.proofs.Count.{Counted, Good, count-good, counted-up}
@@ -66,15 +66,15 @@ module _ {H N : ℕ} {rows : List ℤ} (positions work visit : List ℕ) (S : So
       let D = starts-there in
       omega (arith, counted-up S long′ w added K (F .0) (D .0) (F .1) (D .1), ok-count S long′ (all-split H N rows positions work visit) end-ok (F .0) (D .0) (F .1) (D .1))
 
-  pub counts : (t : Tallied) → count H N rows H zeros ≡ t → Good H N rows zeros H t
+  pub counts : (t : Tallied) → count-rows H N rows H zeros ≡ t → Good H N rows zeros H t
   counts t e = subst (Good H N rows zeros H) e (count-good zeros S long′ (filled-reads 0 (H + N) work) H (omega arith))
 
   -- the copies of a sound net are counted, and no fan is left open
   pub by-pass : {P : Type 0} → ((added : ℕ) → all-split H N rows positions work visit .added ≡ added → split-sound H N rows positions work visit ≡ cond (leb added (vertex-capacity-over positions - N)) (written H N rows positions work visit) (none-free H N rows positions work visit) → P) → P
   unfolding split-sound
-  by-pass {P} f = go (count H N rows H zeros) refl
+  by-pass {P} f = go (count-rows H N rows H zeros) refl
     where
-      go : (t : Tallied) → count H N rows H zeros ≡ t → P
+      go : (t : Tallied) → count-rows H N rows H zeros ≡ t → P
       go (tallied w added) e = f added (counted-added w added (counts (tallied w added) e)) (rw e)
       go unclosed e = absurd (counts unclosed e)
 
@@ -111,7 +111,7 @@ module _ (c : Counts) (n : Net) (work visit : List ℕ) (s : Sound c n) (work-lo
   room-lent : N + end .added ≤ vertex-capacity n → N + end .added ≤ lent-triples (n .positions)
   room-lent r = omega (arith, capacities c n .vertices-lent)
 
-  done-here : N + end .added ≤ vertex-capacity n → IsDone c n work visit (written H N (n .halfedges) (n .positions) work visit) (end .added) (end .steps)
+  done-here : N + end .added ≤ vertex-capacity n → SplitDone c n work visit (written H N (n .halfedges) (n .positions) work visit) (end .added) (end .steps)
   done-here room = record {
     said = refl;
     split = rw visits-are W;
@@ -151,8 +151,8 @@ module _ (c : Counts) (n : Net) (work visit : List ℕ) (s : Sound c n) (work-lo
           (λ t. g (omega (arith, leb-false added (vertex-capacity n - N) t, s .shaped .vertices-fit)) (past-checks ∙ (rw t at e)))
 
   -- (a) the answer is 0 or 6
-  pub split-told : ((added : ℕ) × (steps : ℕ) × IsDone c n work visit (splitPinched c n work visit) added steps) ⊎ IsFull c n work visit (splitPinched c n work visit)
-  split-told =
+  pub split-in-words : ((added : ℕ) × (steps : ℕ) × SplitDone c n work visit (splitPinched c n work visit) added steps) ⊎ IsFull c n work visit (splitPinched c n work visit)
+  split-in-words =
       by-room
       (λ r e. inl (end .added, end .steps, rw e (done-here r)))
       (λ r e. inr (rw e full-here))
@@ -161,8 +161,8 @@ module _ (c : Counts) (n : Net) (work visit : List ℕ) (s : Sound c n) (work-lo
   pub split-full : (F D : ℕ) → Fans H (n .halfedges) F → Starts H N (n .halfedges) D → (splitPinched c n work visit .said ≡ no-room) ↔ (vertex-capacity n - N < F - D)
   split-full F D a b =
       by-room
-      (λ r e. (λ q. numbers-differ (sym (ap (λ (o : Outcome). o .said) e) ∙ q) (λ z. omega arith), λ q. absurd (omega (arith, up))))
-      (λ r e. (λ q. omega (arith, up), λ q. ap (λ (o : Outcome). o .said) e))
+      (λ r e. (λ q. numbers-differ (sym (ap (λ (o : SplitOutcome). o .said) e) ∙ q) (λ z. omega arith), λ q. absurd (omega (arith, up))))
+      (λ r e. (λ q. omega (arith, up), λ q. ap (λ (o : SplitOutcome). o .said) e))
     where
       up : end .added + D ≡ F
       up = ok-count S (rw (length-filled 0 0 (H + N) work (omega arith) work-long) work-long) end K F D a b

@@ -1,5 +1,5 @@
-pub mod Needs
 pub mod Steps
 pub mod Split
 pub mod Promise
 pub mod Told
+pub mod inner

@@ -64,9 +64,9 @@ and-then (tallied work added) f = f work added
 and-then unclosed f = unclosed
 
 -- the half-edges below i, rising
-unfoldable pub count : ℕ → ℕ → List ℤ → ℕ → List ℕ → Tallied
-count H N rows zero work = tallied work 0
-count H N rows (suc i) work = and-then (count H N rows i work) (count-step H N rows i)
+unfoldable pub count-rows : ℕ → ℕ → List ℤ → ℕ → List ℕ → Tallied
+count-rows H N rows zero work = tallied work 0
+count-rows H N rows (suc i) work = and-then (count-rows H N rows i work) (count-step H N rows i)
 
 -- ---- with all written
 pub record State : Type 0 where

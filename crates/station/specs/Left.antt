@@ -14,7 +14,7 @@ use Rattle.repairtold.specs.declared.CleanupTopologyAnswer.{CleanupTopologyAnsw
 use Rattle.repairtold.specs.Told.{edge-told, edges-told, cleanup-told, collapse-told}
 use Rattle.owners.specs.Scan as owners
 use Rattle.formloop.specs.FormLoop.{Left}
-use Rattle.splitting.specs.Split.{Outcome}
+use Rattle.splitting.specs.Split.{SplitOutcome}
 use Rattle.dedupe.specs.DedupeEdge as edge
 use Rattle.rounds.specs.DedupeEdges as edges
 use Rattle.collapse.specs.CollapseEdge as collapse
@@ -23,10 +23,10 @@ use Rattle.collapse.specs.CollapseEdge as collapse
 abbrev pub and-left : {A B : Type 0} → (Said → B) → Said × A → B × A
 and-left tell (s, left) = (tell s, left)
 
-abbrev pub split-left : Outcome → SplitAnswer × List ℤ × List ℕ × List ℕ × List ℕ
+abbrev pub split-left : SplitOutcome → SplitAnswer × List ℤ × List ℕ × List ℕ × List ℕ
 split-left o = (split-told (o .said), o .halfedges, o .positions, o .work, o .visit)
 
-abbrev pub owners-left : owners.Outcome → OwnersAnswer × List ℕ × List ℕ
+abbrev pub owners-left : owners.OwnersOutcome → OwnersAnswer × List ℕ × List ℕ
 owners-left o = (owners-told (o .said), o .work, o .list)
 
 abbrev pub loop-left : Left → LoopAnswer × List ℤ × List ℕ × List ℤ × List ℕ

@@ -6,7 +6,7 @@ use Prim.Native.Nat.{ℕ}
 use native.Mathlib.Decide.{ℕ-discrete}
 use lib.Ieee.{Float, binary64, add, sub, mul, lt, ofInt, ofBits}
 use lib.IntN.{ℤ, pos, negsuc}
-use lib.ListN.{drop, replicate}
+use lib.ListN.{length, drop, replicate}
 use Rattle.answers.specs.Answers.{Said, whole, float, done, bad-number, no-room, stopped, long}
 use Rattle.collapse.specs.CollapseEdge.{Left, collapseSettled, collapseNamed, collapseEdge, tolerance}
 use Rattle.collapsing.specs.Collapse.{between, judge, close, about, short-at, collapse-at}
@@ -23,9 +23,9 @@ use Rattle.folds.specs.Folds.{lose, lose-folded, has-pair, joined, join, cleare
 use Rattle.removefolded.specs.RemoveIfFolded.{Out, foldNamed, removeIfFolded}
 use Rattle.pairing.specs.Pairing.{paired}
 use Rattle.soundness.specs.Check.{checkNet}
-use Rattle.rowtests.specs.Order.{live, in-order, first-failing}
-use Rattle.splitting.specs.Split.{Outcome, split-sound, splitPinched}
-use Rattle.splitting.specs.Steps.{flag-walk, relabel-walk, count-step, count, split-step, split-rows}
+use Rattle.rowtests.specs.Order.{is-live, in-order, first-failing}
+use Rattle.splitting.specs.Split.{SplitOutcome, split-sound, splitPinched}
+use Rattle.splitting.specs.Steps.{flag-walk, relabel-walk, count-step, count-rows, split-step, split-rows}
 use Rattle.triangles.specs.Triangles.{emptied, collapsed, collapse}
 use Rattle.turning.specs.Walk.{walk as fan-walk, walk-end}
 use Rattle.updatevert.specs.UpdateVert.{updateVert, updateNamed, updateAt}
@@ -57,7 +57,7 @@ abbrev numbers : List ℤ → Said
 numbers l = done (map whole l)
 
 -- the example split over these positions
-abbrev split-with : List ℕ → Outcome
+abbrev split-with : List ℕ → SplitOutcome
 split-with p = splitPinched (counts 12 5) (bare rows p) (replicate 17 0) (replicate 12 0)
 
 abbrev six : List ℕ
@@ -84,7 +84,7 @@ P-dead = dead-with 40 ++ dead-with 41 ++ dead-with 42 ++ dead-with 43 ++ dead-wi
 
 abbrev collapse-P : Left
 collapse-P =
-    collapseEdge (counts 6 3) (bare P-with P-positions) (replicate 24 (pos 0)) (replicate 9 0) (replicate 6 0) (pos 0) (tolerance (pos 2) (exact (pos 2)) (exact (pos 0)))
+    collapseEdge (counts 6 3) (bare P-with P-positions) (replicate (length P-rows) (pos 0)) (replicate 9 0) (replicate 6 0) (pos 0) (tolerance (pos 2) (exact (pos 2)) (exact (pos 0)))
 
 abbrev update-P : ℤ → ℤ → Said
 update-P start end = updateVert (counts 6 3) (bare P-rows P-positions) (pos 0) start end .0
@@ -115,7 +115,7 @@ table =
     ∷ (numbers (map pos (collapse-P .positions)) gives numbers (map pos (replicate 3 0x7FF8000000000000 ++ drop 3 P-positions)))
     -- P, remove_if_folded at 0: all dead, props −1, three NaN positions
     ∷ (remove-P .0 gives done [])
-    ∷ (numbers (remove-P .1 .0) gives numbers (replicate 24 (negsuc 0)))
+    ∷ (numbers (remove-P .1 .0) gives numbers (replicate (length P-rows) (negsuc 0)))
     ∷ (numbers (map pos (remove-P .1 .1)) gives numbers (replicate 9 (pos 0x7FF8000000000000)))
     -- P, update_vert from 0 to 1, and from 0 to 0
     ∷ (update-P (pos 0) (pos 1) gives stopped)
@@ -123,5 +123,5 @@ table =
     ∷ []
 
 pub table-holds : map (λ (k : Case). k .gives) table ≡ map (λ (k : Case). k .is) table
-unfolding collapseEdge collapseNamed collapseSettled collapse-at judge between short-at about close ring spin inner turn-once collapse collapsed emptied update over-rows over-triples removeIfFolded foldNamed fold fold-at take-out clear cleared join joined has-pair lose-folded lose paired splitPinched split-sound count count-step split-rows split-step flag-walk relabel-walk fan-walk walk-end ℕ-discrete triple put-triple zero-triples next nextZ no-next column set-column add sub mul lt ofInt ofBits is-shaped triangle-capacity-over vertex-capacity-over property-capacity-over checkNet live in-order first-failing updateVert updateNamed updateAt reaches walk onward moved
+unfolding collapseEdge collapseNamed collapseSettled collapse-at judge between short-at about close ring spin inner turn-once collapse collapsed emptied update over-rows over-triples removeIfFolded foldNamed fold fold-at take-out clear cleared join joined has-pair lose-folded lose paired splitPinched split-sound count-rows count-step split-rows split-step flag-walk relabel-walk fan-walk walk-end ℕ-discrete triple put-triple zero-triples next nextZ no-next column set-column add sub mul lt ofInt ofBits is-shaped triangle-capacity-over vertex-capacity-over property-capacity-over checkNet is-live in-order first-failing updateVert updateNamed updateAt reaches walk onward moved
 table-holds = refl

@@ -18,7 +18,7 @@ use Rattle.numbers.specs.Numbers.{Named, at, nothing, names, is-named}
 use Rattle.numbers.proofs.Names.{names-is, names-below}
 use Rattle.rows.specs.Halfedges.{endOf}
 use Rattle.searches.specs.Duplicates.{ends-alike, is-duplicate, is-in}
-use Rattle.ordering.specs.Order.{entry-limit, entry}
+use Rattle.ordering.specs.inner.Order.{entry-limit, entry}
 use Rattle.duplicates.specs.Scan.{picked}
 use Rattle.tables.specs.Table.{lesser, is-over, is-over-at}
 

@@ -17,7 +17,7 @@ use Rattle.numbers.specs.Next.{most-halfedges}
 use Rattle.numbers.proofs.Names.{at-inj, names-below}
 use Rattle.rows.specs.Halfedges.{endOf, is-started, is-ended}
 use Rattle.searches.specs.Duplicates.{fan, ends-alike, is-duplicate, is-in}
-use Rattle.ordering.specs.Order.{walked-bit, entry-limit, see, place, is-walked, entry}
+use Rattle.ordering.specs.inner.Order.{walked-bit, entry-limit, see, place, is-walked, entry}
 use Rattle.ordering.proofs.Words.{bit, see-bit, see-entry, see-other, place-bit, place-entry, place-other}
 use Rattle.duplicates.specs.Scan.{Entries, entries, push-all, picked, Scan, scan}
 use Rattle.duplicates.proofs.Scans.{Below, fan-in, Scanning, scanning-begins, scanning-passed, scanning-walked}

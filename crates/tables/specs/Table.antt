@@ -11,7 +11,7 @@ use lib.IntN.{ℤ}
 use Rattle.numbers.specs.Numbers.{Named, at, nothing, names}
 use Rattle.rows.specs.Halfedges.{endOf, is-started, is-ended}
 use Rattle.searches.specs.Duplicates.{fan}
-use Rattle.ordering.specs.Order.{see, place, is-walked, entry}
+use Rattle.ordering.specs.inner.Order.{see, place, is-walked, entry}
 use Rattle.duplicates.specs.Scan.{push-all, picked, Scan, scan}
 
 -- the table, and whether some vertex was entered twice

@@ -32,13 +32,13 @@ fn enter(rows: &[i32], work: &mut [u32], vertices: usize, twice: bool, c: Halfed
     ensures { λ r. ⌜ table (now (work .exit)) r ≡ enter vertices (now (rows .entry)) (halfedgeNumber c) (table (now (work .entry)) twice) ⌝ }
 {
     let k = c.number();
-    fanwalks::see(work, k);
+    workentries::see(work, k);
     let NamedVertex::At(end) = rows::halfedges::end_of(rows, c, vertices) else {
         return twice;
     };
     let v = end.number();
-    let x = fanwalks::entry_at(work, v);
-    fanwalks::place(work, v, lesser(x, k));
+    let x = workentries::entry_at(work, v);
+    workentries::place(work, v, lesser(x, k));
     twice | (x != 0)
 }
 
@@ -68,7 +68,7 @@ fn is_over(rows: &[i32], work: &[u32], vertices: usize, c: Halfedge) -> bool
     let NamedVertex::At(end) = rows::halfedges::end_of(rows, c, vertices) else {
         return false;
     };
-    fanwalks::entry_at(work, end.number()) != c.number() + 1
+    workentries::entry_at(work, end.number()) != c.number() + 1
 }
 
 // Lists those of the fan of i that are not the least at their end behind the entries. How many there are then.
@@ -107,7 +107,7 @@ fn clear(rows: &[i32], work: &mut [u32], vertices: usize, c: Halfedge)
     let NamedVertex::At(end) = rows::halfedges::end_of(rows, c, vertices) else {
         return;
     };
-    fanwalks::place(work, end.number(), 0);
+    workentries::place(work, end.number(), 0);
 }
 
 // Takes back what the fan of i has entered.
@@ -133,7 +133,7 @@ fn is_done(rows: &[i32], work: &[u32], h: Halfedge) -> bool
     ensures { λ r. ⌜ r ≡ is-done (now (rows .entry)) (halfedgeNumber h) (now (work .entry)) ⌝ }
 {
     let k = h.number();
-    fanwalks::is_walked(work, h)
+    workentries::is_walked(work, h)
         | !(rows::corners::started(rows, k) & rows::corners::ended(rows, k))
 }
 

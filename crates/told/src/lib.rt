@@ -10,7 +10,7 @@ ghost use Rattle.collapsetri.specs.CollapseTri.{collapseSaid};
 ghost use Rattle.removefolded.specs.RemoveIfFolded.{removeSaid};
 ghost use Rattle.formloop.specs.FormLoop.{formSaid};
 ghost use Rattle.owners.specs.Scan.{ownersSaid};
-ghost use Rattle.split.specs.Answer.{splitSaid};
+ghost use Rattle.splitcleared.specs.Answer.{splitSaid};
 ghost use Rattle.told.specs.Told.{counts-of, vector-of, eligible-of, told, next-told, tri-told, length-told, row-told, update-told, split-told, owners-told, loop-told, split-refused, loop-refused};
 use collapsetri::CollapseTri;
 use floats::Length;
@@ -23,7 +23,7 @@ use ownertests::Eligible;
 use pairing::PairUp;
 use removefolded::RemoveIfFolded;
 use soundness::Checked;
-use split::Split;
+use splitcleared::Split;
 use updatevert::UpdateVert;
 
 // How many rows of each array are in use, and how many numbers a property row has.

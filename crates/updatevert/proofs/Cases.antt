@@ -9,8 +9,8 @@ use Rattle.numbers.specs.Next.{next}
 use Rattle.rows.specs.Halfedges.{column, set-column}
 use Rattle.net.specs.Counts.{is-shaped, triangle-capacity-over, vertex-capacity-over, property-capacity-over}
 use Rattle.soundness.specs.Check.{checkNet}
-use Rattle.rowtests.specs.Order.{live as is-live, in-order, first-failing}
-use Rattle.example.specs.Example.{live, dead as gone, P-rows, P-positions, counts, bare}
+use Rattle.rowtests.specs.Order.{is-live, in-order, first-failing}
+use Rattle.example.specs.Example.{live-row, dead-row, P-rows, P-positions, counts, bare}
 use Rattle.walks.specs.Walk.{onward, moved, reaches, walk}
 use Rattle.updatevert.specs.UpdateVert.{updateAt, updateNamed, updateVert}
 
@@ -32,7 +32,7 @@ refused h r v a b s = case h r v a b s r
 
 -- a dead triangle before P's two
 abbrev half-dead : List ℤ
-half-dead = gone ++ gone ++ gone ++ live 0 1 6 ++ live 1 2 8 ++ live 2 0 7 ++ live 1 0 3 ++ live 0 2 5 ++ live 2 1 4
+half-dead = dead-row ++ dead-row ++ dead-row ++ live-row 0 1 6 ++ live-row 1 2 8 ++ live-row 2 0 7 ++ live-row 1 0 3 ++ live-row 0 2 5 ++ live-row 2 1 4
 
 abbrev pub cases : List Case
 cases =
@@ -40,8 +40,8 @@ cases =
     refused 6 P-rows (pos 2) (pos 0) (pos 1) stopped
     ∷ case 6 P-rows (pos 2) (pos 0) (pos 0) (done []) P-rows
     -- one move, from 0 to 5: end of 0 and start of 1; from 5 to 0: end of 5 and start of 3
-    ∷ case 6 P-rows (pos 2) (pos 0) (pos 5) (done []) (live 0 2 3 ++ live 2 2 5 ++ live 2 0 4 ++ live 1 0 0 ++ live 0 2 2 ++ live 2 1 1)
-    ∷ case 6 P-rows (pos 0) (pos 5) (pos 0) (done []) (live 0 1 3 ++ live 1 2 5 ++ live 2 0 4 ++ live 0 0 0 ++ live 0 2 2 ++ live 2 0 1)
+    ∷ case 6 P-rows (pos 2) (pos 0) (pos 5) (done []) (live-row 0 2 3 ++ live-row 2 2 5 ++ live-row 2 0 4 ++ live-row 1 0 0 ++ live-row 0 2 2 ++ live-row 2 1 1)
+    ∷ case 6 P-rows (pos 0) (pos 5) (pos 0) (done []) (live-row 0 1 3 ++ live-row 1 2 5 ++ live-row 2 0 4 ++ live-row 0 0 0 ++ live-row 0 2 2 ++ live-row 2 0 1)
     -- numbers: a vertex beyond those in use or below 0, a half-edge beyond or below at either place
     ∷ refused 6 P-rows (pos 3) (pos 0) (pos 0) bad-number
     ∷ refused 6 P-rows (negsuc 0) (pos 0) (pos 0) bad-number
@@ -54,7 +54,7 @@ cases =
     ∷ refused 9 half-dead (pos 2) (pos 1) (pos 1) dead
     ∷ refused 9 half-dead (pos 3) (pos 1) (pos 1) bad-number
     -- a row out of order comes before a number, a shape before both
-    ∷ refused 6 (live 0 1 3 ++ live 1 2 5 ++ live 2 0 6 ++ live 1 0 0 ++ live 0 2 2 ++ live 2 1 1) (pos 3) (pos 0) (pos 0) (unsound 2)
+    ∷ refused 6 (live-row 0 1 3 ++ live-row 1 2 5 ++ live-row 2 0 6 ++ live-row 1 0 0 ++ live-row 0 2 2 ++ live-row 2 1 1) (pos 3) (pos 0) (pos 0) (unsound 2)
     ∷ refused 5 P-rows (pos 3) (pos 0) (pos 0) shape
     ∷ []
 

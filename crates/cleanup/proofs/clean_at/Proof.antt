@@ -7,7 +7,7 @@ use lib.ListN.{length, drop}
 use Rattle.answers.specs.Answers.{Said}
 use Rattle.laws.proofs.Stretches.{filled-beyond}
 use Rattle.net.specs.Counts.{most-vertices}
-use Rattle.splitting.specs.Split.{Outcome, split-sound}
+use Rattle.splitting.specs.Split.{SplitOutcome, split-sound}
 use Rattle.growth.specs.Growth.{Growing, Fitting}
 use Rattle.settling.proofs.Kept.{grew-trans}
 use Rattle.rounds.proofs.Grown.{rounds-grew}
@@ -42,7 +42,7 @@ after-split-requires c κs =
     let x = splits (s .limits) (s .halfedges) (s .vertices) (s .rows .now) (s .positions .now) (s .normals .now) (s .references .now) (s .work .now) (s .list .now) (p .0 .0) (p .0 .1) (p .1 .0) wl ll in
     let e = c .before .before .before .before .before .before .before .split-sound .ensures in
     let y = x .grew .fitting .vertices-fit in
-    subst (λ (z : Said). split-run (s .vertices) (s .limits .vertices) z .vertices ≤ most-vertices) (sym (ap (λ (o : Outcome). o .said) e)) (omega (arith, y .within-vertices, y .few-vertices))
+    subst (λ (z : Said). split-run (s .vertices) (s .limits .vertices) z .vertices ≤ most-vertices) (sym (ap (λ (o : SplitOutcome). o .said) e)) (omega (arith, y .within-vertices, y .few-vertices))
 
 add-rounds-settled : tie.Need-add-rounds-settled
 add-rounds-settled c =
@@ -115,8 +115,8 @@ returns c =
     let a = after-split (s .limits) (s .halfedges) (s .vertices) (s .normals .now) (s .references .now) o in
     let g = grew-trans (s .limits) (x .grew) (rounds-grew (s .limits) (s .halfedges) a (x .grew .fitting)) in
     let q = ends-clean (s .limits) (s .halfedges) (s .vertices) (s .rows .now) (s .spare-halfedges .now) (s .positions .now) (s .spare-positions .now) (s .normals .now) (s .references .now) a _ _ (p .1 .0) g (c .before .before .before .before .before .before .before .before .before .before .before .before .before .before .before .before .before .before .before .before .before .before .before .before .before .before .before .before .before .before .before .before .before .before .before .before .before .before .before .before .copy .ensures) (c .before .before .before .before .before .before .before .before .before .before .before .before .before .before .before .before .before .before .before .before .before .before .before .before .before .before .before .before .before .before .before .before .before .before .before .before .copy2 .ensures) w (r .0) in
-    let z = cleared-same (s .halfedges + s .vertices) (s .limits .halfedges + s .vertices) _ (s .work .now) (omega (arith, p .1 .0 .rows-fit .within-capacity)) (ap (drop (s .halfedges + s .vertices)) (ap (λ (y : Outcome). y .work) e ∙ x .work-is) ∙ filled-beyond 0 (s .halfedges + s .vertices) (s .work .now)) (r .1 .0) in
-    let n = cleared-same (s .halfedges) (s .limits .halfedges) _ (s .list .now) (p .1 .0 .rows-fit .within-capacity) (ap (drop (s .halfedges)) (ap (λ (y : Outcome). y .visit) e) ∙ x .list-free) (r .1 .1) in
+    let z = cleared-same (s .halfedges + s .vertices) (s .limits .halfedges + s .vertices) _ (s .work .now) (omega (arith, p .1 .0 .rows-fit .within-capacity)) (ap (drop (s .halfedges + s .vertices)) (ap (λ (y : SplitOutcome). y .work) e ∙ x .work-is) ∙ filled-beyond 0 (s .halfedges + s .vertices) (s .work .now)) (r .1 .0) in
+    let n = cleared-same (s .halfedges) (s .limits .halfedges) _ (s .list .now) (p .1 .0 .rows-fit .within-capacity) (ap (drop (s .halfedges)) (ap (λ (y : SplitOutcome). y .visit) e) ∙ x .list-free) (r .1 .1) in
     left-as _ (c .before .before .before .before .before .before .before .before .before .before .before .before .before .before .before .before .before .before .before .before .before .before .before .before .before .before .before .before .before .before .before .before .before .before .before .before .before .before .before .before .copy .ensures) (c .before .before .before .before .before .before .before .before .before .before .before .before .before .before .before .before .before .before .before .before .before .before .before .before .before .before .before .before .before .before .before .before .before .before .before .before .copy2 .ensures) z n q (c .answer .ensures)
 
 pub clean-at-spec : {M : Type 1} → statement M

@@ -14,16 +14,13 @@ unfolding partner-clause
 returns c =
     rw ((sym (c .before .points-back .ensures) ∙ not-true (c .before .points-back .result) (c .if1 .taken)))
 
-number-requires : tie.Need-number-requires
-number-requires c κs = search needs
-
-within-requires : tie.Need-within-requires
-within-requires c κs = search needs
+is-within-requires : tie.Need-is-within-requires
+is-within-requires c κs = search needs
 
 returns-2 : tie.Need-returns-2
 unfolding partner-clause
 returns-2 c =
-    rw (((sym (c .before .before .before .before .points-back .ensures) ∙ not-false (c .before .before .before .before .points-back .result) (c .before .before .before .if1 .left))), (rw (c .before .before .number .ensures) at (sym (c .before .within .ensures) ∙ not-true (c .before .within .result) (c .if2 .taken))))
+    rw (((sym (c .before .before .before .points-back .ensures) ∙ not-false (c .before .before .before .points-back .result) (c .before .before .if1 .left))), ((sym (c .before .is-within .ensures) ∙ not-true (c .before .is-within .result) (c .if2 .taken))))
 
 triangle-clause-requires : tie.Need-triangle-clause-requires
 triangle-clause-requires c κs = search needs
@@ -31,7 +28,7 @@ triangle-clause-requires c κs = search needs
 returns-3 : tie.Need-returns-3
 unfolding partner-clause
 returns-3 c =
-    rw (((sym (c .before .before .before .before .before .points-back .ensures) ∙ not-false (c .before .before .before .before .before .points-back .result) (c .before .before .before .before .if1 .left))), (rw (c .before .before .before .number .ensures) at (sym (c .before .before .within .ensures) ∙ not-false (c .before .before .within .result) (c .before .if2 .left)))) (c .triangle-clause .ensures)
+    rw (((sym (c .before .before .before .before .points-back .ensures) ∙ not-false (c .before .before .before .before .points-back .result) (c .before .before .before .if1 .left))), ((sym (c .before .before .is-within .ensures) ∙ not-false (c .before .before .is-within .result) (c .before .if2 .left)))) (c .triangle-clause .ensures)
 
 pub partner-clause-spec : {M : Type 1} → statement M
 partner-clause-spec =
@@ -39,8 +36,7 @@ partner-clause-spec =
     (tie.spec
     points-back-requires
     returns
-    number-requires
-    within-requires
+    is-within-requires
     returns-2
     triangle-clause-requires
     returns-3)

@@ -4,8 +4,8 @@ use Prim.Native.Nat.{_-_}
 use native.Mathlib.Omega.{arith}
 use borrow.Author.Tests.{not-true, not-false}
 use borrow.Author.Needs.{needs}
-use Rattle.ownertests.specs.Needs.{Back}
-use Rattle.fanmarks.specs.Marks.{Left}
+use Rattle.ownertests.specs.inner.Needs.{Back}
+use Rattle.fanmarks.specs.inner.Marks.{Left}
 use Rattle.fanmarks.proofs.Leaving.{left-none, left-on}
 use Rattle.fanmarks.proofs.Scanning.{Scanning, scanning-begins, scanning-on, scanning-stops, scanning-done}
 use Rattle.fanmarks.proofs.mark_fans.Statement.{statement}

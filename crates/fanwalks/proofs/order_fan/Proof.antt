@@ -4,8 +4,8 @@ use mathlib.Core.Path.{sym, ap, _∙_, subst}
 use Prim.Native.Nat.{_<_}
 use native.Mathlib.Omega.{arith}
 use Rattle.numbers.specs.Numbers.{halfedgeNumber}
-use Rattle.ordering.specs.Order.{entry-limit, see, place, told}
-use Rattle.ordering.proofs.Walks.{told-small}
+use Rattle.ordering.specs.inner.Order.{entry-limit, see, place, last-entry}
+use Rattle.ordering.proofs.Walks.{last-entry-small}
 use Rattle.fanwalks.specs.declared.Behind.the-variants as B
 use Rattle.fanwalks.proofs.Loops.{Ordering, ordering-begins, ordering-never, ordering-place, ordering-on, ordering-home}
 use borrow.Author.Needs.{needs}
@@ -33,13 +33,13 @@ number-requires-2 c κs = search needs
 see-requires : tie.Need-see-requires Inv-loop μ-loop
 see-requires c κs = omega (arith, c .before .number2 .ensures, c .before .before .turn-of .ensures .1, c .before .before .before .before .loop .inv .work-len, c .before .before .before .before .before .before .before .pre .work-long)
 
-told-requires : tie.Need-told-requires Inv-loop μ-loop
-told-requires c κs = omega (arith, c .before .before .before .before .before .before .number2 .ensures, c .before .before .before .before .before .before .before .turn-of .ensures .1, c .before .before .before .before .before .before .before .before .before .before .before .before .pre .round .few)
+last-entry-requires : tie.Need-last-entry-requires Inv-loop μ-loop
+last-entry-requires c κs = omega (arith, c .before .before .before .before .before .before .number2 .ensures, c .before .before .before .before .before .before .before .turn-of .ensures .1, c .before .before .before .before .before .before .before .before .before .before .before .before .pre .round .few)
 
 place-requires : tie.Need-place-requires Inv-loop μ-loop
 place-requires c κs = (
   omega (arith, ordering-place (c .before .before .before .before .before .before .before .before .before .before .before .before .before .pre) (c .before .before .before .before .before .before .before .before .before .before .loop .inv) (c .before .before .before .before .before .before .before .before .before .loop-test .taken), c .before .before .before .before .before .see .kept .0, c .before .before .before .before .before .before .before .before .before .before .loop .inv .work-len, c .before .before .before .before .before .before .before .before .before .before .before .before .before .pre .work-long),
-  subst (λ x. x < entry-limit) (sym (c .told .ensures)) (told-small (c .before .before .before .before .before .before .before .before .before .before .before .before .before .args .first) (c .before .before .before .before .before .before .before .number2 .result) (omega (arith, c .before .before .before .before .before .before .before .number2 .ensures, c .before .before .before .before .before .before .before .before .turn-of .ensures .1, c .before .before .before .before .before .before .before .before .before .before .before .before .before .pre .round .few))),
+  subst (λ x. x < entry-limit) (sym (c .last-entry .ensures)) (last-entry-small (c .before .before .before .before .before .before .before .before .before .before .before .before .before .args .first) (c .before .before .before .before .before .before .before .number2 .result) (omega (arith, c .before .before .before .before .before .before .before .number2 .ensures, c .before .before .before .before .before .before .before .before .turn-of .ensures .1, c .before .before .before .before .before .before .before .before .before .before .before .before .before .pre .round .few))),
 )
 
 add-t19 : tie.Need-add-t19 Inv-loop μ-loop
@@ -52,9 +52,9 @@ returns : tie.Need-returns Inv-loop μ-loop
 returns c =
     let q = ordering-home (c .before .before .before .before .before .before .before .before .before .before .before .before .before .before .before .before .pre) (c .before .before .before .before .before .before .before .before .before .before .before .before .before .loop .inv) (c .before .before .before .before .before .before .before .before .before .before .before .before .loop-test .taken) (halfedgeNumber (c .before .before .before .before .before .before .before .before .before .before .before .turn-of .result)) (c .before .before .before .before .before .before .before .before .before .before .before .turn-of .ensures .0) (sym (c .before .before .before .before .before .before .before .before .before .before .number2 .ensures) ∙ c .before .before .before .before .before .if1 .taken ∙ c .before .before .before .before .before .before .before .before .before .before .before .before .before .before .number .ensures) _
     (c .before .before .place .ensures
-    ∙ ap (λ x. place (c .before .before .before .before .before .before .before .before .before .before .before .before .before .loop .k) x (c .before .before .before .before .before .before .before .before .see .last .0)) (c .before .before .before .told .ensures)
-    ∙ ap (place (c .before .before .before .before .before .before .before .before .before .before .before .before .before .loop .k) (told (c .before .before .before .before .before .before .before .before .before .before .before .before .before .before .before .before .args .first) (c .before .before .before .before .before .before .before .before .before .before .number2 .result))) (c .before .before .before .before .before .before .before .before .see .ensures)
-    ∙ ap (λ h. place (c .before .before .before .before .before .before .before .before .before .before .before .before .before .loop .k) (told (c .before .before .before .before .before .before .before .before .before .before .before .before .before .before .before .before .args .first) h) (see h (c .before .before .before .before .before .before .before .before .before .before .before .before .before .loop .work))) (c .before .before .before .before .before .before .before .before .before .before .number2 .ensures)) in
+    ∙ ap (λ x. place (c .before .before .before .before .before .before .before .before .before .before .before .before .before .loop .k) x (c .before .before .before .before .before .before .before .before .see .last .0)) (c .before .before .before .last-entry .ensures)
+    ∙ ap (place (c .before .before .before .before .before .before .before .before .before .before .before .before .before .loop .k) (last-entry (c .before .before .before .before .before .before .before .before .before .before .before .before .before .before .before .before .args .first) (c .before .before .before .before .before .before .before .before .before .before .number2 .result))) (c .before .before .before .before .before .before .before .before .see .ensures)
+    ∙ ap (λ h. place (c .before .before .before .before .before .before .before .before .before .before .before .before .before .loop .k) (last-entry (c .before .before .before .before .before .before .before .before .before .before .before .before .before .before .before .before .args .first) h) (see h (c .before .before .before .before .before .before .before .before .before .before .before .before .before .loop .work))) (c .before .before .before .before .before .before .before .before .before .before .number2 .ensures)) in
     (q .0, ap B.At (q .1))
 
 place-requires-2 : tie.Need-place-requires-2 Inv-loop μ-loop
@@ -96,7 +96,7 @@ order-fan-spec =
     turn-of-requires
     number-requires-2
     see-requires
-    told-requires
+    last-entry-requires
     place-requires
     add-t19
     same-length

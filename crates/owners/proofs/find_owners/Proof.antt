@@ -27,7 +27,7 @@ returns c =
     let a = c .before .before .before .before .before .before .before .before .before .before .before .before .before .before .before .args in
     let s = rw (c .before .before .before .before .before .before .before .before .before .before .before .zero-u8 .ensures) at (c .before .before .before .before .before .before .before .has-owners .ensures) in
     rw (filled-again 0 (a .halfedges) (a .work .now) _ _ (s .beyond) (c .before .before .zero-u82 .ensures))
-    (sym (none-found (a .eligible) (a .halfedges) (a .rows .now) (a .work .now) (a .list .now) (sym (s .told) ∙ not-true (c .before .before .before .before .before .before .before .has-owners .result) (c .before .before .before .before .if1 .taken))))
+    (sym (none-found (a .eligible) (a .halfedges) (a .rows .now) (a .work .now) (a .list .now) (sym (s .whether) ∙ not-true (c .before .before .before .before .before .before .before .has-owners .result) (c .before .before .before .before .if1 .taken))))
 
 list-owners-requires : tie.Need-list-owners-requires
 list-owners-requires c κs = search needs

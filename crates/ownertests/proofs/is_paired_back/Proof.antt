@@ -23,11 +23,8 @@ is-pair-requires c κs =
 enum-told : tie.Need-enum-told
 enum-told c = search needs
 
-number-requires : tie.Need-number-requires
-number-requires c κs = search needs
-
-paired-requires : tie.Need-paired-requires
-paired-requires c κs = search needs
+is-paired-requires : tie.Need-is-paired-requires
+is-paired-requires c κs = search needs
 
 returns : tie.Need-returns
 unfolding points-back
@@ -35,7 +32,7 @@ returns c = rw (← c .before .before .before .before .pair-of .ensures, c .befo
 
 returns-2 : tie.Need-returns-2
 unfolding points-back
-returns-2 c = rw (← c .before .before .before .before .pair-of .ensures, c .before .before .enum-told .given .1, c .paired .ensures, c .before .number .ensures)
+returns-2 c = rw (← c .before .before .before .pair-of .ensures, c .before .enum-told .given .1, c .is-paired .ensures)
 
 pub is-paired-back-spec : {M : Type 1} → statement M
 is-paired-back-spec =
@@ -45,7 +42,6 @@ is-paired-back-spec =
     enum-known-p
     is-pair-requires
     enum-told
-    number-requires
-    paired-requires
+    is-paired-requires
     returns
     returns-2)

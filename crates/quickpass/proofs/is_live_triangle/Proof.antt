@@ -29,8 +29,8 @@ is-apart-requires c κs = room _ 0 _ _ _ (c .before .before .before .before .bef
 returns-3 : tie.Need-returns-3
 returns-3 c = λ e. not-both false e refl
 
-is-joined-requires : tie.Need-is-joined-requires
-is-joined-requires c κs = room _ 0 _ _ _ (c .before .before .before .before .before .before .before .pre)
+is-chained-requires : tie.Need-is-chained-requires
+is-chained-requires c κs = room _ 0 _ _ _ (c .before .before .before .before .before .before .before .pre)
 
 returns-4 : tie.Need-returns-4
 returns-4 c = λ e. not-both false e refl
@@ -41,7 +41,7 @@ is-met-requires c κs = (c .before .before .before .before .before .before .befo
 returns-5 : tie.Need-returns-5
 returns-5 c =
     λ e.
-    let w = three _ _ _ _ _ (c .before .before .before .before .before .before .before .before .before .before .pre) (sym (c .before .before .before .before .before .before .is-placed .ensures) ∙ not-false (c .before .before .before .before .before .before .is-placed .result) (c .before .before .before .before .before .if2 .left)) (sym (c .before .before .is-joined .ensures) ∙ not-false (c .before .before .is-joined .result) (c .before .if4 .left)) (sym (c .before .before .before .before .is-apart .ensures) ∙ not-false (c .before .before .before .before .is-apart .result) (c .before .before .before .if3 .left)) (c .is-met .ensures e) in
+    let w = three _ _ _ _ _ (c .before .before .before .before .before .before .before .before .before .before .pre) (sym (c .before .before .before .before .before .before .is-placed .ensures) ∙ not-false (c .before .before .before .before .before .before .is-placed .result) (c .before .before .before .before .before .if2 .left)) (sym (c .before .before .is-chained .ensures) ∙ not-false (c .before .before .is-chained .result) (c .before .if4 .left)) (sym (c .before .before .before .before .is-apart .ensures) ∙ not-false (c .before .before .before .before .is-apart .result) (c .before .before .before .if3 .left)) (c .is-met .ensures e) in
     three-passed _ _ _ _ (c .before .before .before .before .before .before .before .before .before .before .pre .first) (w .0) (w .1) (w .2)
 
 pub is-live-triangle-spec : {M : Type 1} → statement M
@@ -55,7 +55,7 @@ is-live-triangle-spec =
     returns-2
     is-apart-requires
     returns-3
-    is-joined-requires
+    is-chained-requires
     returns-4
     is-met-requires
     returns-5)

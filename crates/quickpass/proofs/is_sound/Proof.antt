@@ -6,7 +6,7 @@ use native.Mathlib.Omega.{arith}
 use borrow.Author.Tests.{not-false}
 use borrow.Author.Needs.{needs}
 use Rattle.laws.proofs.Tests.{not-both}
-use Rattle.quickpass.specs.Quick.{Passed-from, RowsAt}
+use Rattle.quickpass.specs.inner.Quick.{Passed-from, RowsAt}
 use Rattle.rowtests.proofs.Triangle.{room}
 use Rattle.quickpass.proofs.Quick.{triangle-at, row-behind, dead-passed, passed-on, nothing-left}
 use Rattle.quickpass.proofs.is_sound.Statement.{statement}

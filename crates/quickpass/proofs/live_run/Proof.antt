@@ -4,7 +4,7 @@ use Prim.Native.Nat.{_%_, _-_, _≤_}
 use native.Mathlib.Omega.{arith}
 use borrow.Author.Tests.{not-false}
 use borrow.Author.Needs.{needs}
-use Rattle.quickpass.specs.Quick.{Passed-from}
+use Rattle.quickpass.specs.inner.Quick.{Passed-from}
 use Rattle.quickpass.proofs.Quick.{passed-on}
 use Rattle.quickpass.proofs.live_run.Statement.{statement}
 use Rattle.quickpass.proofs.live_run.Tie as tie

@@ -1,5 +1,5 @@
 -- `rowtests::is_live` meets its contract.
-use Rattle.rowtests.specs.Order.{live}
+use Rattle.rowtests.specs.Order.{is-live}
 use borrow.Author.Needs.{needs}
 use Rattle.rowtests.proofs.is_live.Statement.{statement}
 use Rattle.rowtests.proofs.is_live.Tie as tie
@@ -14,7 +14,7 @@ has-partner-requires : tie.Need-has-partner-requires
 has-partner-requires c κs = search needs
 
 returns : tie.Need-returns
-unfolding live
+unfolding is-live
 returns c = rw (c .before .before .within .ensures, c .before .joined .ensures, c .has-partner .ensures)
 
 pub is-live-spec : {M : Type 1} → statement M

@@ -25,7 +25,12 @@ returns : tie.Need-returns
 returns c = said-shape (c .before .before .before .before .before .before .before .before .before .args .counts) (net (c .before .before .before .before .before .before .before .before .before .args .halfedges .now) (c .before .before .before .before .before .before .before .before .before .args .positions .now) (c .before .before .before .before .before .before .before .before .before .args .normals .now) (c .before .before .before .before .before .before .before .before .before .args .references .now) (c .before .before .before .before .before .before .before .before .before .args .properties .now)) (c .before .before .before .before .before .before .before .before .before .args .work .now) (c .before .before .before .before .before .before .before .before .before .args .visit .now) (sym (c .before .shaped .ensures) ∙ not-true (c .before .shaped .result) (c .if1 .taken))
 
 add-long-enough : tie.Need-add-long-enough
-add-long-enough c = let w = within (c .before .before .before .before .before .before .before .before .before .before .args .counts) (net (c .before .before .before .before .before .before .before .before .before .before .args .halfedges .now) (c .before .before .before .before .before .before .before .before .before .before .args .positions .now) (c .before .before .before .before .before .before .before .before .before .before .args .normals .now) (c .before .before .before .before .before .before .before .before .before .before .args .references .now) (c .before .before .before .before .before .before .before .before .before .before .args .properties .now)) (shaped-yes (c .before .before .before .before .before .before .before .before .before .before .args .counts) (net (c .before .before .before .before .before .before .before .before .before .before .args .halfedges .now) (c .before .before .before .before .before .before .before .before .before .before .args .positions .now) (c .before .before .before .before .before .before .before .before .before .before .args .normals .now) (c .before .before .before .before .before .before .before .before .before .before .args .references .now) (c .before .before .before .before .before .before .before .before .before .before .args .properties .now)) (sym (c .before .before .shaped .ensures) ∙ not-false (c .before .before .shaped .result) (c .before .if1 .left))) in record { fits = omega (arith, w .halfedges-most, w .vertices-most) }
+add-long-enough c =
+    let args = c .before .before .before .before .before .before .before .before .before .before .args in
+    let at-shaped = c .before .before .shaped in
+    let n = net (args .halfedges .now) (args .positions .now) (args .normals .now) (args .references .now) (args .properties .now) in
+    let w = within (args .counts) n (shaped-yes (args .counts) n (sym (at-shaped .ensures) ∙ not-false (at-shaped .result) (c .before .if1 .left))) in
+    record { fits = omega (arith, w .halfedges-most, w .vertices-most) }
 
 long-enough-requires : tie.Need-long-enough-requires
 long-enough-requires c κs = search needs
@@ -40,10 +45,24 @@ same-length-4 : tie.Need-same-length-4
 same-length-4 c = search needs
 
 returns-2 : tie.Need-returns-2
-returns-2 c = said-short (c .before .before .before .before .before .before .before .before .before .before .before .before .before .args .counts) (net (c .before .before .before .before .before .before .before .before .before .before .before .before .before .args .halfedges .now) (c .before .before .before .before .before .before .before .before .before .before .before .before .before .args .positions .now) (c .before .before .before .before .before .before .before .before .before .before .before .before .before .args .normals .now) (c .before .before .before .before .before .before .before .before .before .before .before .before .before .args .references .now) (c .before .before .before .before .before .before .before .before .before .before .before .before .before .args .properties .now)) (c .before .before .before .before .before .before .before .before .before .before .before .before .before .args .work .now) (c .before .before .before .before .before .before .before .before .before .before .before .before .before .args .visit .now) (sym (c .before .before .before .before .before .shaped .ensures) ∙ not-false (c .before .before .before .before .before .shaped .result) (c .before .before .before .before .if1 .left)) (rw (c .before .before .long-enough .ensures, c .before .long-enough2 .ensures) at (not-true (c .before .before .long-enough .result && c .before .long-enough2 .result) (c .if2 .taken)))
+returns-2 c =
+    let args = c .before .before .before .before .before .before .before .before .before .before .before .before .before .args in
+    let at-shaped = c .before .before .before .before .before .shaped in
+    let at-long-enough = c .before .before .long-enough in
+    let at-long-enough2 = c .before .long-enough2 in
+    let n = net (args .halfedges .now) (args .positions .now) (args .normals .now) (args .references .now) (args .properties .now) in
+    said-short (args .counts) n (args .work .now) (args .visit .now) (sym (at-shaped .ensures) ∙ not-false (at-shaped .result) (c .before .before .before .before .if1 .left)) (rw (at-long-enough .ensures, at-long-enough2 .ensures) at (not-true (at-long-enough .result && at-long-enough2 .result) (c .if2 .taken)))
 
 first-out-requires : tie.Need-first-out-requires
-first-out-requires c κs = let w = within (c .before .before .before .before .before .before .before .before .before .before .before .before .before .before .args .counts) (net (c .before .before .before .before .before .before .before .before .before .before .before .before .before .before .args .halfedges .now) (c .before .before .before .before .before .before .before .before .before .before .before .before .before .before .args .positions .now) (c .before .before .before .before .before .before .before .before .before .before .before .before .before .before .args .normals .now) (c .before .before .before .before .before .before .before .before .before .before .before .before .before .before .args .references .now) (c .before .before .before .before .before .before .before .before .before .before .before .before .before .before .args .properties .now)) (shaped-yes (c .before .before .before .before .before .before .before .before .before .before .before .before .before .before .args .counts) (net (c .before .before .before .before .before .before .before .before .before .before .before .before .before .before .args .halfedges .now) (c .before .before .before .before .before .before .before .before .before .before .before .before .before .before .args .positions .now) (c .before .before .before .before .before .before .before .before .before .before .before .before .before .before .args .normals .now) (c .before .before .before .before .before .before .before .before .before .before .before .before .before .before .args .references .now) (c .before .before .before .before .before .before .before .before .before .before .before .before .before .before .args .properties .now)) (sym (c .before .before .before .before .before .before .shaped .ensures) ∙ not-false (c .before .before .before .before .before .before .shaped .result) (c .before .before .before .before .before .if1 .left))) in (w .halfedges-thirds, (w .halfedges-lent, w .halfedges-most))
+first-out-requires c κs =
+    let args = c .before .before .before .before .before .before .before .before .before .before .before .before .before .before .args in
+    let at-shaped = c .before .before .before .before .before .before .shaped in
+    let at-if1 = c .before .before .before .before .before .if1 in
+    let n = net (args .halfedges .now) (args .positions .now) (args .normals .now) (args .references .now) (args .properties .now) in
+    let shaped-here = sym (at-shaped .ensures) ∙ not-false (at-shaped .result) (at-if1 .left) in
+    let shape-is = shaped-yes (args .counts) n shaped-here in
+    let w = within (args .counts) n shape-is in
+    (w .halfedges-thirds, (w .halfedges-lent, w .halfedges-most))
 
 enum-known-h : tie.Need-enum-known-h
 enum-known-h c = search needs
@@ -52,7 +71,19 @@ enum-told : tie.Need-enum-told
 enum-told c = search needs
 
 split-sound-requires : tie.Need-split-sound-requires
-split-sound-requires c κs = let s = sound-here (c .before .before .before .before .before .before .before .before .before .before .before .before .before .before .before .before .before .before .before .before .before .args .counts) (net (c .before .before .before .before .before .before .before .before .before .before .before .before .before .before .before .before .before .before .before .before .before .args .halfedges .now) (c .before .before .before .before .before .before .before .before .before .before .before .before .before .before .before .before .before .before .before .before .before .args .positions .now) (c .before .before .before .before .before .before .before .before .before .before .before .before .before .before .before .before .before .before .before .before .before .args .normals .now) (c .before .before .before .before .before .before .before .before .before .before .before .before .before .before .before .before .before .before .before .before .before .args .references .now) (c .before .before .before .before .before .before .before .before .before .before .before .before .before .before .before .before .before .before .before .before .before .args .properties .now)) (c .before .before .before .before .before .before .before .before .before .before .before .before .before .before .before .before .before .before .before .before .before .args .work .now) (c .before .before .before .before .before .before .before .before .before .before .before .before .before .before .before .before .before .before .before .before .before .args .visit .now) (sym (c .before .before .before .before .before .before .before .before .before .before .before .before .before .shaped .ensures) ∙ not-false (c .before .before .before .before .before .before .before .before .before .before .before .before .before .shaped .result) (c .before .before .before .before .before .before .before .before .before .before .before .before .if1 .left)) (sym (c .before .before .before .before .before .before .first-out .ensures) ∙ ap halfedgeNamed (c .before .before .before .before .enum-told .given .1)) in let l = (rw (c .before .before .before .before .before .before .before .before .before .before .long-enough .ensures, c .before .before .before .before .before .before .before .before .before .long-enough2 .ensures) at (not-false (c .before .before .before .before .before .before .before .before .before .before .long-enough .result && c .before .before .before .before .before .before .before .before .before .long-enough2 .result) (c .before .before .before .before .before .before .before .before .if2 .left))) in (sound-rows (c .before .before .before .before .before .before .before .before .before .before .before .before .before .before .before .before .before .before .before .before .before .args .counts) (net (c .before .before .before .before .before .before .before .before .before .before .before .before .before .before .before .before .before .before .before .before .before .args .halfedges .now) (c .before .before .before .before .before .before .before .before .before .before .before .before .before .before .before .before .before .before .before .before .before .args .positions .now) (c .before .before .before .before .before .before .before .before .before .before .before .before .before .before .before .before .before .before .before .before .before .args .normals .now) (c .before .before .before .before .before .before .before .before .before .before .before .before .before .before .before .before .before .before .before .before .before .args .references .now) (c .before .before .before .before .before .before .before .before .before .before .before .before .before .before .before .before .before .before .before .before .before .args .properties .now)) s, (work-long (c .before .before .before .before .before .before .before .before .before .before .before .before .before .before .before .before .before .before .before .before .before .args .counts) (net (c .before .before .before .before .before .before .before .before .before .before .before .before .before .before .before .before .before .before .before .before .before .args .halfedges .now) (c .before .before .before .before .before .before .before .before .before .before .before .before .before .before .before .before .before .before .before .before .before .args .positions .now) (c .before .before .before .before .before .before .before .before .before .before .before .before .before .before .before .before .before .before .before .before .before .args .normals .now) (c .before .before .before .before .before .before .before .before .before .before .before .before .before .before .before .before .before .before .before .before .before .args .references .now) (c .before .before .before .before .before .before .before .before .before .before .before .before .before .before .before .before .before .before .before .before .before .args .properties .now)) (c .before .before .before .before .before .before .before .before .before .before .before .before .before .before .before .before .before .before .before .before .before .args .work .now) (c .before .before .before .before .before .before .before .before .before .before .before .before .before .before .before .before .before .before .before .before .before .args .visit .now) l, (visit-long (c .before .before .before .before .before .before .before .before .before .before .before .before .before .before .before .before .before .before .before .before .before .args .counts) (net (c .before .before .before .before .before .before .before .before .before .before .before .before .before .before .before .before .before .before .before .before .before .args .halfedges .now) (c .before .before .before .before .before .before .before .before .before .before .before .before .before .before .before .before .before .before .before .before .before .args .positions .now) (c .before .before .before .before .before .before .before .before .before .before .before .before .before .before .before .before .before .before .before .before .before .args .normals .now) (c .before .before .before .before .before .before .before .before .before .before .before .before .before .before .before .before .before .before .before .before .before .args .references .now) (c .before .before .before .before .before .before .before .before .before .before .before .before .before .before .before .before .before .before .before .before .before .args .properties .now)) (c .before .before .before .before .before .before .before .before .before .before .before .before .before .before .before .before .before .before .before .before .before .args .work .now) (c .before .before .before .before .before .before .before .before .before .before .before .before .before .before .before .before .before .before .before .before .before .args .visit .now) l, s .shaped .vertices-fit)))
+split-sound-requires c κs =
+    let args = c .before .before .before .before .before .before .before .before .before .before .before .before .before .before .before .before .before .before .before .before .before .args in
+    let at-shaped = c .before .before .before .before .before .before .before .before .before .before .before .before .before .shaped in
+    let at-if1 = c .before .before .before .before .before .before .before .before .before .before .before .before .if1 in
+    let at-long-enough = c .before .before .before .before .before .before .before .before .before .before .long-enough in
+    let at-long-enough2 = c .before .before .before .before .before .before .before .before .before .long-enough2 in
+    let at-if2 = c .before .before .before .before .before .before .before .before .if2 in
+    let at-first-out = c .before .before .before .before .before .before .first-out in
+    let n = net (args .halfedges .now) (args .positions .now) (args .normals .now) (args .references .now) (args .properties .now) in
+    let shaped-here = sym (at-shaped .ensures) ∙ not-false (at-shaped .result) (at-if1 .left) in
+    let long-here = rw (at-long-enough .ensures, at-long-enough2 .ensures) at (not-false (at-long-enough .result && at-long-enough2 .result) (at-if2 .left)) in
+    let s = sound-here (args .counts) n (args .work .now) (args .visit .now) shaped-here (sym (at-first-out .ensures) ∙ ap halfedgeNamed (c .before .before .before .before .enum-told .given .1)) in
+    (sound-rows (args .counts) n s, (work-long (args .counts) n (args .work .now) (args .visit .now) long-here, (visit-long (args .counts) n (args .work .now) (args .visit .now) long-here, s .shaped .vertices-fit)))
 
 same-length-5 : tie.Need-same-length-5
 same-length-5 c = search needs
@@ -61,7 +92,17 @@ same-length-6 : tie.Need-same-length-6
 same-length-6 c = search needs
 
 returns-3 : tie.Need-returns-3
-returns-3 c = said-unsound (c .before .before .before .before .before .before .before .before .before .before .before .before .before .before .before .before .before .before .args .counts) (net (c .before .before .before .before .before .before .before .before .before .before .before .before .before .before .before .before .before .before .args .halfedges .now) (c .before .before .before .before .before .before .before .before .before .before .before .before .before .before .before .before .before .before .args .positions .now) (c .before .before .before .before .before .before .before .before .before .before .before .before .before .before .before .before .before .before .args .normals .now) (c .before .before .before .before .before .before .before .before .before .before .before .before .before .before .before .before .before .before .args .references .now) (c .before .before .before .before .before .before .before .before .before .before .before .before .before .before .before .before .before .before .args .properties .now)) (c .before .before .before .before .before .before .before .before .before .before .before .before .before .before .before .before .before .before .args .work .now) (c .before .before .before .before .before .before .before .before .before .before .before .before .before .before .before .before .before .before .args .visit .now) (sym (c .before .before .before .before .before .before .before .before .before .before .shaped .ensures) ∙ not-false (c .before .before .before .before .before .before .before .before .before .before .shaped .result) (c .before .before .before .before .before .before .before .before .before .if1 .left)) (rw (c .before .before .before .before .before .before .before .long-enough .ensures, c .before .before .before .before .before .before .long-enough2 .ensures) at (not-false (c .before .before .before .before .before .before .before .long-enough .result && c .before .before .before .before .before .before .long-enough2 .result) (c .before .before .before .before .before .if2 .left))) _ (sym (c .before .before .before .first-out .ensures) ∙ ap halfedgeNamed (c .before .h .given .1))
+returns-3 c =
+    let args = c .before .before .before .before .before .before .before .before .before .before .before .before .before .before .before .before .before .before .args in
+    let at-shaped = c .before .before .before .before .before .before .before .before .before .before .shaped in
+    let at-if1 = c .before .before .before .before .before .before .before .before .before .if1 in
+    let at-long-enough = c .before .before .before .before .before .before .before .long-enough in
+    let at-long-enough2 = c .before .before .before .before .before .before .long-enough2 in
+    let at-if2 = c .before .before .before .before .before .if2 in
+    let n = net (args .halfedges .now) (args .positions .now) (args .normals .now) (args .references .now) (args .properties .now) in
+    let shaped-here = sym (at-shaped .ensures) ∙ not-false (at-shaped .result) (at-if1 .left) in
+    let long-here = rw (at-long-enough .ensures, at-long-enough2 .ensures) at (not-false (at-long-enough .result && at-long-enough2 .result) (at-if2 .left)) in
+    said-unsound (args .counts) n (args .work .now) (args .visit .now) shaped-here long-here _ (sym (c .before .before .before .first-out .ensures) ∙ ap halfedgeNamed (c .before .h .given .1))
 
 same-length-7 : tie.Need-same-length-7
 same-length-7 c = search needs
@@ -76,7 +117,21 @@ same-length-10 : tie.Need-same-length-10
 same-length-10 c = search needs
 
 returns-4 : tie.Need-returns-4
-returns-4 c = c .before .before .before .before .before .before .before .split-sound .ensures ∙ said-sound (c .before .before .before .before .before .before .before .before .before .before .before .before .before .before .before .before .before .before .before .before .before .before .before .before .before .before .before .before .before .args .counts) (net (c .before .before .before .before .before .before .before .before .before .before .before .before .before .before .before .before .before .before .before .before .before .before .before .before .before .before .before .before .before .args .halfedges .now) (c .before .before .before .before .before .before .before .before .before .before .before .before .before .before .before .before .before .before .before .before .before .before .before .before .before .before .before .before .before .args .positions .now) (c .before .before .before .before .before .before .before .before .before .before .before .before .before .before .before .before .before .before .before .before .before .before .before .before .before .before .before .before .before .args .normals .now) (c .before .before .before .before .before .before .before .before .before .before .before .before .before .before .before .before .before .before .before .before .before .before .before .before .before .before .before .before .before .args .references .now) (c .before .before .before .before .before .before .before .before .before .before .before .before .before .before .before .before .before .before .before .before .before .before .before .before .before .before .before .before .before .args .properties .now)) (c .before .before .before .before .before .before .before .before .before .before .before .before .before .before .before .before .before .before .before .before .before .before .before .before .before .before .before .before .before .args .work .now) (c .before .before .before .before .before .before .before .before .before .before .before .before .before .before .before .before .before .before .before .before .before .before .before .before .before .before .before .before .before .args .visit .now) (sym (c .before .before .before .before .before .before .before .before .before .before .before .before .before .before .before .before .before .before .before .before .before .shaped .ensures) ∙ not-false (c .before .before .before .before .before .before .before .before .before .before .before .before .before .before .before .before .before .before .before .before .before .shaped .result) (c .before .before .before .before .before .before .before .before .before .before .before .before .before .before .before .before .before .before .before .before .if1 .left)) (rw (c .before .before .before .before .before .before .before .before .before .before .before .before .before .before .before .before .before .before .long-enough .ensures, c .before .before .before .before .before .before .before .before .before .before .before .before .before .before .before .before .before .long-enough2 .ensures) at (not-false (c .before .before .before .before .before .before .before .before .before .before .before .before .before .before .before .before .before .before .long-enough .result && c .before .before .before .before .before .before .before .before .before .before .before .before .before .before .before .before .before .long-enough2 .result) (c .before .before .before .before .before .before .before .before .before .before .before .before .before .before .before .before .if2 .left))) (sym (c .before .before .before .before .before .before .before .before .before .before .before .before .before .before .first-out .ensures) ∙ ap halfedgeNamed (c .before .before .before .before .before .before .before .before .before .before .before .before .enum-told .given .1))
+returns-4 c =
+    let args = c .before .before .before .before .before .before .before .before .before .before .before .before .before .before .before .before .before .before .before .before .before .before .before .before .before .before .before .before .before .args in
+    let at-shaped = c .before .before .before .before .before .before .before .before .before .before .before .before .before .before .before .before .before .before .before .before .before .shaped in
+    let at-if1 = c .before .before .before .before .before .before .before .before .before .before .before .before .before .before .before .before .before .before .before .before .if1 in
+    let at-long-enough = c .before .before .before .before .before .before .before .before .before .before .before .before .before .before .before .before .before .before .long-enough in
+    let at-long-enough2 = c .before .before .before .before .before .before .before .before .before .before .before .before .before .before .before .before .before .long-enough2 in
+    let at-if2 = c .before .before .before .before .before .before .before .before .before .before .before .before .before .before .before .before .if2 in
+    let at-first-out = c .before .before .before .before .before .before .before .before .before .before .before .before .before .before .first-out in
+    let at-enum-told = c .before .before .before .before .before .before .before .before .before .before .before .before .enum-told in
+    let at-split-sound = c .before .before .before .before .before .before .before .split-sound in
+    let n = net (args .halfedges .now) (args .positions .now) (args .normals .now) (args .references .now) (args .properties .now) in
+    let shaped-here = sym (at-shaped .ensures) ∙ not-false (at-shaped .result) (at-if1 .left) in
+    let long-here = rw (at-long-enough .ensures, at-long-enough2 .ensures) at (not-false (at-long-enough .result && at-long-enough2 .result) (at-if2 .left)) in
+    let none-out = sym (at-first-out .ensures) ∙ ap halfedgeNamed (at-enum-told .given .1) in
+    at-split-sound .ensures ∙ said-sound (args .counts) n (args .work .now) (args .visit .now) shaped-here long-here none-out
 
 pub split-pinched-verts-spec : {M : Type 1} → statement M
 split-pinched-verts-spec =

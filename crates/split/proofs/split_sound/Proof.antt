@@ -5,7 +5,7 @@ use native.Mathlib.Omega.{arith}
 use lib.ListN.{drop}
 use Rattle.laws.proofs.Stretches.{length-filled, filled-again}
 use Rattle.laws.specs.Stretches.{cleared}
-use Rattle.split.proofs.Stages.{with-work, sound-same}
+use Rattle.splitcleared.proofs.Stages.{with-work, sound-same}
 use borrow.Author.Needs.{needs}
 use Rattle.split.proofs.split_sound.Statement.{statement}
 use Rattle.split.proofs.split_sound.Tie as tie

@@ -4,7 +4,7 @@ use native.Mathlib.Omega.{arith}
 use Rattle.numbers.specs.Numbers.{vertexNamed}
 use Rattle.numbers.proofs.Names.{names-below}
 use Rattle.rows.specs.Halfedges.{endOf}
-use Rattle.ordering.specs.Order.{entry-limit}
+use Rattle.ordering.specs.inner.Order.{entry-limit}
 use Rattle.tables.specs.Table.{lesser, enter}
 use Rattle.tables.proofs.Least.{lesser-bound}
 use borrow.Author.Needs.{needs}
