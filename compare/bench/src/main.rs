@@ -1,7 +1,7 @@
 //! Times each entry beside the original Rust: the same nets, one run, the two sides by turns, by the thread's own clock, the best and the
 //! middle of the rounds. Writes SPEED.md and speed.svg into a folder.
 //!
-//! bench FOLDER [TRIANGLES]: on nets of at most so many triangles
+//! bench FOLDER [TRIANGLES [COMPILERS [PROCESSOR]]]: on nets of at most so many triangles; the page names compilers and processor so
 #![allow(dead_code)]
 
 #[path = "../../harness/src/chance.rs"]
@@ -40,6 +40,8 @@ struct Course {
     folded: usize,
     /// the rows that a collapse at `from` may write, as they are
     beside_start: Vec<(usize, [i32; 4])>,
+    /// the list that the Rust's collapse is given
+    scratch: Vec<usize>,
     /// for the entries that work in rounds alone
     wide: bool,
 }
@@ -52,10 +54,20 @@ struct Race {
     theirs: fn(&mut Course),
     /// what the Rust does not do, as work of the same size by itself
     shares: &'static [(&'static str, fn(&mut Course))],
-    /// the Rust's call takes a time that does not grow with the net
-    constant: bool,
+    /// what its time is told of, and beside what
+    told: Told,
     /// on the largest torus, by its order, or on the net of that name: the most that was wanted of the Rust's time
     wanted: &'static [(&'static str, f64)],
+}
+
+#[derive(Clone, Copy, PartialEq)]
+enum Told {
+    /// both grow with the net: time of a half-edge, and the ratio
+    OfRows,
+    /// the Rust's call takes a time that does not grow with the net: time of a call, and what the shares are of it
+    OfShares,
+    /// neither grows: time of a call, and the ratio
+    OfCalls,
 }
 
 const WIDE: &str = "bipyramid of valence 100,000";
@@ -67,7 +79,7 @@ const RACES: &[Race] = &[
         ours: check_net,
         theirs: |c| edge_op::split_pinched_verts(&mut c.mesh),
         shares: &[],
-        constant: false,
+        told: Told::OfRows,
         wanted: &[("in order", 0.8), ("shuffled", 0.25)],
     },
     Race {
@@ -76,7 +88,7 @@ const RACES: &[Race] = &[
         ours: split_pinched_verts,
         theirs: |c| edge_op::split_pinched_verts(&mut c.mesh),
         shares: &[("soundness", check_net), ("clearing", clear_words)],
-        constant: false,
+        told: Told::OfRows,
         wanted: &[("in order", 2.05), ("shuffled", 0.85)],
     },
     Race {
@@ -85,7 +97,7 @@ const RACES: &[Race] = &[
         ours: orbit_owners,
         theirs: |c| assert!(black_box(parallel::edge_op::private::orbit_owners(&c.rows, false)).is_some()),
         shares: &[("clearing", clear_bytes)],
-        constant: false,
+        told: Told::OfRows,
         wanted: &[],
     },
     Race {
@@ -94,7 +106,7 @@ const RACES: &[Race] = &[
         ours: orbit_owners,
         theirs: |c| assert!(black_box(sequential::edge_op::private::orbit_owners(&c.sequential_rows, false)).is_some()),
         shares: &[("clearing", clear_bytes)],
-        constant: false,
+        told: Told::OfRows,
         wanted: &[("in order", 0.38), ("shuffled", 0.55)],
     },
     Race {
@@ -103,7 +115,7 @@ const RACES: &[Race] = &[
         ours: update_vert,
         theirs: |c| edge_op::update_vert(&mut c.mesh, c.net.halfedges[4 * c.from + 1], c.from, c.to),
         shares: &[("soundness", check_net)],
-        constant: true,
+        told: Told::OfShares,
         wanted: &[],
     },
     Race {
@@ -119,7 +131,7 @@ const RACES: &[Race] = &[
             }
         },
         shares: &[("soundness", check_net)],
-        constant: true,
+        told: Told::OfShares,
         wanted: &[],
     },
     Race {
@@ -132,7 +144,7 @@ const RACES: &[Race] = &[
             c.mesh.halfedge[c.folded..].copy_from_slice(&kept);
         },
         shares: &[("soundness", check_net)],
-        constant: true,
+        told: Told::OfShares,
         wanted: &[],
     },
     Race {
@@ -144,7 +156,7 @@ const RACES: &[Race] = &[
             c.mesh.vert_pos.truncate(c.net.used.vertices);
         },
         shares: &[("soundness", check_net), ("the spare", fill_spare)],
-        constant: true,
+        told: Told::OfShares,
         wanted: &[],
     },
     Race {
@@ -153,7 +165,7 @@ const RACES: &[Race] = &[
         ours: dedupe_edges,
         theirs: |c| edge_op::dedupe_edges(&mut c.mesh),
         shares: &[("soundness", check_net), ("the spare", fill_spare), ("clearing", clear_words_and_list)],
-        constant: false,
+        told: Told::OfRows,
         wanted: &[("in order", 0.8), ("shuffled", 0.8), (WIDE, 0.002)],
     },
     Race {
@@ -162,7 +174,7 @@ const RACES: &[Race] = &[
         ours: cleanup_topology,
         theirs: |c| edge_op::cleanup_topology(&mut c.mesh),
         shares: &[("soundness", check_net), ("the spare", fill_spare), ("clearing", clear_words_and_list)],
-        constant: false,
+        told: Told::OfRows,
         wanted: &[("in order", 0.9), ("shuffled", 0.9)],
     },
     Race {
@@ -176,7 +188,7 @@ const RACES: &[Race] = &[
             c.mesh.vert_pos.truncate(c.net.used.vertices);
         },
         shares: &[("soundness", check_net), ("the spare", fill_spare)],
-        constant: true,
+        told: Told::OfShares,
         wanted: &[],
     },
     Race {
@@ -185,8 +197,17 @@ const RACES: &[Race] = &[
         ours: collapse_edge,
         theirs: collapsed_by_the_rust,
         shares: &[("soundness", check_net), ("the spare", fill_spare)],
-        constant: true,
+        told: Told::OfShares,
         wanted: &[],
+    },
+    Race {
+        entry: "the work of collapse_edge past its checks",
+        beside: "the Rust's collapse_edge",
+        ours: collapse_work,
+        theirs: collapsed_by_the_rust,
+        shares: &[],
+        told: Told::OfCalls,
+        wanted: &[("in order", 1.5), ("shuffled", 1.5)],
     },
     Race {
         entry: "the crate's split_pinched_verts",
@@ -194,7 +215,7 @@ const RACES: &[Race] = &[
         ours: |c| safe::split_pinched_verts(&mut c.mesh).expect("a sound net"),
         theirs: split_pinched_verts,
         shares: &[],
-        constant: false,
+        told: Told::OfRows,
         wanted: &[("in order", 1.1), ("shuffled", 1.1)],
     },
     Race {
@@ -206,7 +227,7 @@ const RACES: &[Race] = &[
         },
         theirs: form_loop,
         shares: &[],
-        constant: false,
+        told: Told::OfRows,
         wanted: &[("in order", 1.1), ("shuffled", 1.1)],
     },
 ];
@@ -391,9 +412,65 @@ fn collapse_edge(c: &mut Course) {
     put_back(c);
 }
 
+#[repr(C)]
+struct StepAnswer {
+    number: u32,
+    vertices: usize,
+}
+
+extern "C" {
+    /// The work of collapse_edge past its checks: crates/innersteps exports it for the comparison and for this.
+    fn innersteps_try(
+        used: raw::Used,
+        halfedges: *mut i32,
+        halfedges_length: usize,
+        positions: *mut u64,
+        positions_length: usize,
+        normals: *const u64,
+        normals_length: usize,
+        references: *const i32,
+        references_length: usize,
+        properties: *const u64,
+        properties_length: usize,
+        list: *mut u32,
+        list_length: usize,
+        halfedge: i32,
+        first_new_vert: i32,
+        tol: f64,
+        epsilon: f64,
+    ) -> StepAnswer;
+}
+
+fn collapse_work(c: &mut Course) {
+    let l = &mut c.net;
+    let told = unsafe {
+        innersteps_try(
+            l.used,
+            l.halfedges.as_mut_ptr(),
+            l.halfedges.len(),
+            l.positions.as_mut_ptr(),
+            l.positions.len(),
+            l.normals.as_ptr(),
+            l.normals.len(),
+            l.references.as_ptr(),
+            l.references.len(),
+            l.properties.as_ptr(),
+            l.properties.len(),
+            l.list.as_mut_ptr(),
+            l.list.len(),
+            c.from as i32,
+            i32::MAX,
+            LONG,
+            LONG,
+        )
+    };
+    assert_eq!((told.number, told.vertices), (0, l.used.vertices));
+    put_back(c);
+}
+
 fn collapsed_by_the_rust(c: &mut Course) {
-    let mut list = vec![];
-    assert!(edge_op::collapse_edge(&mut c.mesh, c.from, &mut list, LONG, i32::MAX));
+    c.scratch.clear();
+    assert!(edge_op::collapse_edge(&mut c.mesh, c.from, &mut c.scratch, LONG, i32::MAX));
     for (h, r) in &c.beside_start {
         c.mesh.halfedge[*h] = original::types::Halfedge { start_vert: r[0], end_vert: r[1], paired_halfedge: r[2], prop_vert: r[3] };
     }
@@ -488,7 +565,7 @@ fn course(name: String, curve: Option<&'static str>, pieces: Vec<[usize; 3]>, in
     let to = onward(onward(from));
     let beside_start = rows_beside_start(&net, from);
     let wide = name == WIDE;
-    Course { name, curve, net, mesh, rows, sequential_rows, from, to, folded, beside_start, wide }
+    Course { name, curve, net, mesh, rows, sequential_rows, from, to, folded, beside_start, scratch: vec![], wide }
 }
 
 fn courses(most: usize, chance: &mut Chance) -> Vec<Course> {
@@ -599,7 +676,11 @@ type Known = HashMap<(String, usize), Time>;
 /// be timed; at least fifteen rounds (three where these take half a minute), at most sixty, and past fifteen no new one after three seconds.
 fn raced(race: &Race, course: &mut Course, number: usize, known: &mut Known) -> (Time, Time, Vec<Time>) {
     let times = (200_000 / course.net.used.halfedges).max(1);
-    let mut runs = vec![(race.entry.to_string(), race.ours, times), (race.beside.to_string(), race.theirs, if race.constant { 1_000 } else { times })];
+    let calls = |grows: bool| if grows { times } else { 1_000 };
+    let mut runs = vec![
+        (race.entry.to_string(), race.ours, calls(race.told != Told::OfCalls)),
+        (race.beside.to_string(), race.theirs, calls(race.told == Told::OfRows)),
+    ];
     for &(name, share) in race.shares {
         let name = if name == "soundness" { "check_net".into() } else { format!("{name} of {}", race.entry) };
         runs.push((name, share, times));
@@ -633,52 +714,70 @@ fn run(words: &[String]) {
     let most = words.get(2).and_then(|w| w.parse().ok()).unwrap_or(1_000_000);
     let mut courses = courses(most, &mut Chance::new(1));
     let mut page = String::from(OPENING);
-    let _ = writeln!(page, "\nProcessor: {}. Compilers: {}.", processor(), words.get(3).map_or("not named", String::as_str));
+    let named = |i: usize| words.get(i).map_or("not named", String::as_str);
+    let _ = writeln!(page, "\nProcessor: {}. Compilers: {}.", named(4), named(3));
     let mut curves = vec![];
     let mut known = Known::new();
     for race in RACES {
         let shares: String = race.shares.iter().map(|(name, _)| format!(" of which {name} |")).collect();
-        let each = if race.constant { "a call" } else { "ns a half-edge" };
+        let each = if race.told == Told::OfRows { "ns a half-edge" } else { "a call" };
         let _ = write!(
             page,
             "\n## {} beside {}\n\n| net | half-edges | {}, {each} |{shares}{}\n|---|---|---|{}---|---|\n",
             race.entry,
             race.beside,
             race.entry,
-            if race.constant { format!(" these of the whole | {}, a call |", race.beside) } else { format!(" {}, ns a half-edge | ratio |", race.beside) },
+            if race.told == Told::OfShares { format!(" these of the whole | {}, a call |", race.beside) } else { format!(" {}, {each} | ratio |", race.beside) },
             "---|".repeat(race.shares.len())
         );
         eprintln!("{} beside {}", race.entry, race.beside);
         let mut wanted = vec![];
+        let mut grown: HashMap<&str, Vec<(f64, f64)>> = HashMap::new();
         // the Rust's rounds are quadratic in the valence: the widest net shows that, and it is for them alone
         let goes_round = ["dedupe_edges", "cleanup_topology"].contains(&race.entry);
         for (number, course) in courses.iter_mut().enumerate().filter(|(_, c)| goes_round || !c.wide) {
             let rows = course.net.used.halfedges as f64;
             let (ours, theirs, shares) = raced(race, course, number, &mut known);
-            let cell = |time: &Time| if race.constant { time.of_a_call() } else { time.of_each(rows) };
+            let cell = |time: &Time| if race.told == Told::OfRows { time.of_each(rows) } else { time.of_a_call() };
             let shown: String = shares.iter().map(|s| format!(" {} |", cell(s))).collect();
             let apart = Time { best: shares.iter().map(|s| s.best).sum(), middle: shares.iter().map(|s| s.middle).sum() };
-            let (over, under) = if race.constant { (&apart, &ours) } else { (&ours, &theirs) };
+            let (over, under) = if race.told == Told::OfShares { (&apart, &ours) } else { (&ours, &theirs) };
             let ratio = Time { best: over.best / under.best, middle: over.middle / under.middle };
-            let (one, other) = if race.constant { (ratio.of_each(1.0), cell(&theirs)) } else { (cell(&theirs), ratio.of_each(1.0)) };
+            let (one, other) = if race.told == Told::OfShares { (ratio.of_each(1.0), cell(&theirs)) } else { (cell(&theirs), ratio.of_each(1.0)) };
             let line = format!("| {} | {} | {} |{shown} {one} | {other} |", course.name, with_commas(rows as usize), cell(&ours));
             eprintln!("{line}");
             let _ = writeln!(page, "{line}");
+            if let (Some(curve), Told::OfRows) = (course.curve, race.told) {
+                grown.entry(curve).or_default().push((ours.best / rows, theirs.best / rows));
+            }
             let named = |order: &str| course.name == order || course.name == format!("torus of 1,000,000 triangles, {order}");
             if let Some((order, most)) = race.wanted.iter().find(|(order, _)| named(order)) {
                 let beyond = if ratio.best <= *most { String::new() } else { format!(", {:.0} % more", 100.0 * (ratio.best / most - 1.0)) };
                 wanted.push(format!("{order} at most {}, and it is {}{beyond}", digits(*most), ratio.of_each(1.0)));
             }
             // the others of surgery take the time of these shares, cleanup that of split and dedupe_edges, and the Rust's split is there once
-            let drawn = !race.entry.starts_with("the crate's") && race.entry != "cleanup_topology" && (!race.constant || race.entry == "form_loop");
+            let drawn = !race.entry.starts_with("the ") && race.entry != "cleanup_topology" && (race.told == Told::OfRows || race.entry == "form_loop");
             if let Some(curve) = course.curve.filter(|_| drawn) {
                 // orbit_owners runs twice
                 if race.beside != "the Rust's orbit_owners, made one after another" {
                     curves.push((race.entry.to_string(), curve, rows / 3.0, ours.best));
                 }
-                if !race.constant && race.entry != "check_net" {
+                if race.told == Told::OfRows && race.entry != "check_net" {
                     curves.push((race.beside.to_string(), curve, rows / 3.0, theirs.best));
                 }
+            }
+        }
+        if most >= 1_000_000 {
+            let factors: Vec<String> = ["in order", "shuffled"]
+                .iter()
+                .filter_map(|order| {
+                    let all = grown.get(order)?;
+                    let (first, last) = (all.first()?, all.last()?);
+                    Some(format!("{order} {:.2} times (the other {:.2})", last.0 / first.0, last.1 / first.1))
+                })
+                .collect();
+            if !factors.is_empty() {
+                let _ = writeln!(page, "\nFrom the torus of 1,000 triangles to that of 1,000,000 the time of a half-edge grows: {}.", factors.join("; "));
             }
         }
         if !wanted.is_empty() {
@@ -688,13 +787,6 @@ fn run(words: &[String]) {
     page += CLOSING;
     std::fs::write(folder.join("SPEED.md"), page).expect("the page is written");
     std::fs::write(folder.join("speed.svg"), plot::drawn(&curves)).expect("the plot is written");
-}
-
-/// The processor's name, as Linux has it.
-fn processor() -> String {
-    let text = std::fs::read_to_string("/proc/cpuinfo").unwrap_or_default();
-    let name = text.lines().find_map(|line| line.strip_prefix("model name")?.split_once(':').map(|(_, name)| name.trim().to_string()));
-    name.unwrap_or_else(|| "not named".into())
 }
 
 const OPENING: &str = "# Speed

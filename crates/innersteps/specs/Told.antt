@@ -6,7 +6,7 @@ use lib.IntN.{ℤ}
 use Rattle.numbers.specs.Numbers.{names, named-or}
 use Rattle.net.specs.declared.Counts.{Counts}
 use Rattle.net.specs.Net.{Net}
-use Rattle.net.specs.Counts.{is-shaped, vertex-capacity-over}
+use Rattle.net.specs.Counts.{is-shaped, is-long, vertex-capacity-over}
 use Rattle.steps.specs.declared.How.{How}
 use Rattle.steps.specs.declared.How.the-variants as H
 use Rattle.steps.specs.declared.Run.{Run}
@@ -15,6 +15,9 @@ use Rattle.triangles.specs.Triangles.{collapse}
 use Rattle.walks.specs.Walk.{update}
 use Rattle.folds.specs.Folds.{fold}
 use Rattle.loops.specs.Loops.{loop-at}
+use Rattle.collapsing.specs.declared.Tolerance.{Tolerance}
+use Rattle.collapsing.specs.Collapse.{Outcome, went, left-dead, left-open, left-long, refusal, Trial, collapse-at}
+use Rattle.collapse.specs.CollapseEdge.{carries-props}
 use Rattle.innersteps.specs.declared.Used.{Used}
 use Rattle.innersteps.specs.declared.StepAnswer.{StepAnswer}
 
@@ -76,4 +79,24 @@ loopStep c n first second =
     (named-or (both-kept n 4) (names first (c .halfedges)) (λ a.
     named-or (both-kept n 4) (names second (c .halfedges)) (λ b.
     both-left (loop-at (c .halfedges) (vertex-capacity-over (n .positions)) a b (begun c n)))))
+    (both-kept n 1)
+
+-- how a try came out: by how the steps ended, or 5, 9 or 8 where the edge was left alone
+abbrev pub outcome-told : Outcome → Run → StepAnswer
+outcome-told went r = run-told r
+outcome-told refusal r = run-told r
+outcome-told left-dead r = record { number = 5; vertices = r .vertices }
+outcome-told left-open r = record { number = 9; vertices = r .vertices }
+outcome-told (left-long s) r = record { number = 8; vertices = r .vertices }
+
+abbrev pub trial-left : Trial → StepAnswer × (List ℤ × List ℕ)
+trial-left t = (outcome-told (t .outcome) (t .middle .run), (t .middle .halfedges, t .middle .positions))
+
+unfoldable pub tryStep : Counts → Net → ℕ → ℤ → Tolerance → StepAnswer × (List ℤ × List ℕ)
+tryStep c n room halfedge t =
+    cond (is-shaped c n)
+    (cond (is-long room (c .halfedges))
+    (named-or (both-kept n 4) (names halfedge (c .halfedges)) (λ e.
+    trial-left (collapse-at (c .halfedges) (vertex-capacity-over (n .positions)) (carries-props c) (n .references) t e (begun c n))))
+    (both-kept n 2))
     (both-kept n 1)
