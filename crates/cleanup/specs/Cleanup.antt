@@ -17,7 +17,7 @@ use Rattle.soundness.specs.Check.{sound-or}
 use Rattle.rowtests.specs.Order.{least-out}
 use Rattle.splitting.specs.Split.{SplitOutcome, split-sound}
 use Rattle.steps.specs.declared.Run.{Run}
-use Rattle.steps.specs.Steps.{middle, running, Going, NoRoom}
+use Rattle.steps.specs.Steps.{middle, begun-run, ended-run, NoRoom}
 use Rattle.steps.specs.Entries.{past}
 use Rattle.growth.specs.declared.Limits.{Limits}
 use Rattle.growth.specs.Growth.{Growing, growing, settled}
@@ -37,7 +37,7 @@ cleanupSaid C.Stopped = stopped
 
 -- how splitting went, by what it says: so many vertices more are in use; or a copy found no room, and the free vertex rows had been filled
 abbrev pub split-run : ℕ → ℕ → Said → Run
-split-run N capacity s = cond (eqb (s .number) 0) (running (N + counted (value (s .values) 0)) Going) (running capacity NoRoom)
+split-run N capacity s = cond (eqb (s .number) 0) (begun-run (N + counted (value (s .values) 0))) (ended-run NoRoom (begun-run capacity))
 
 -- the net as splitting leaves it
 abbrev pub after-split : Limits → ℕ → ℕ → List ℕ → List ℤ → SplitOutcome → Growing

@@ -27,9 +27,9 @@ use Rattle.steps.specs.Steps.{Middle, middle, running, is-refused, refused, beg
 use Rattle.triangles.specs.Triangles.{collapsed, collapse, Outside}
 use Rattle.triangles.specs.Triangles as T
 use Rattle.triangles.proofs.Emptied.{collapsed-told}
-use Rattle.walks.specs.Walk.{walk, update}
+use Rattle.walks.specs.Walk.{walk-to, update}
 use Rattle.walks.specs.Way.{move, Reached, OnWay}
-use Rattle.walks.proofs.Kept.{length-walk, walk-below, other-walk}
+use Rattle.walks.proofs.Kept.{length-walk, walk-below, other-walk, update-goes}
 use Rattle.walks.proofs.Told.{moving, AsTold}
 use Rattle.folds.specs.Folds.{nan, lose, fold}
 use Rattle.foldsound.specs.Removed.{Former, Latter, Outer, Rejoined, Lost, Removed}
@@ -59,11 +59,6 @@ going h q n W.Stopped r = absurd (true≢false r)
 
 is-begun : (k : Middle) (h : List ℤ) (q : List ℕ) (n : ℕ) → k .halfedges ≡ h → k .positions ≡ q → k .run .vertices ≡ n → refused k ≡ false → k ≡ begin h q n
 is-begun k h q n a b c r = going (k .halfedges) (k .positions) (k .run .vertices) (k .run .how) r ∙ rw (a, b, c)
-
--- a walk goes on where it comes to its end
-update-goes : (H v from to n : ℕ) (l : List ℤ) (p : List ℕ) → walk H v to H l from .there ≡ true → update H v from to (begin l p n) ≡ begin (walk H v to H l from .rows) p n
-unfolding update
-update-goes H v from to n l p t = rw t
 
 -- nothing is folded at an empty row
 pub fold-empty : (H f n : ℕ) (l : List ℤ) (q : List ℕ) → Empty l f → fold H f (begin l q n) ≡ begin l q n
@@ -275,12 +270,12 @@ module _ (H N : ℕ) (R : List ℤ) (P : List ℕ) (thirds : H % 3 ≡ 0) (lent 
     v = end-vertex R e
 
     abbrev R3 : List ℤ
-    R3 = walk H v to H R2 a .rows
+    R3 = walk-to H H v a to R2 .rows
 
     same2 : SamePairs H N R thirds lent in-order to a R2
     same2 g w = kept2 pair (λ q. omega arith) (next g) ∙ same1 g w
 
-    there3 : walk H v to H R2 a .there ≡ true
+    there3 : walk-to H H v a to R2 .there ≡ true
     there3 = comes H N R thirds lent in-order to v H (soonest .0) a R2 la same2 (soonest .1 .0) (soonest .1 .1)
 
     told3 : (g : ℕ) → AsTold H N R thirds lent in-order v a to R2 R3 g

@@ -21,7 +21,7 @@ use Rattle.net.proofs.Sound.{live-row, partner-live}
 use Rattle.steps.specs.Steps.{Middle, begin, refused, with-rows}
 use Rattle.triangles.specs.Triangles.{collapsed, collapse}
 use Rattle.triangles.proofs.Told.{collapse-goes}
-use Rattle.folds.specs.Folds.{nan, most, lose}
+use Rattle.folds.specs.Folds.{nan, lose}
 use Rattle.loops.specs.Loops.{loop-at}
 use Rattle.rings.specs.Ring.{Fixed, carried, find, Turned, out, on, formed, turn-at, turn-once, Spun, spun, after, tired, inner, spin}
 use Rattle.collapsetold.specs.Plain.{carry, along, meets, Plain}
@@ -78,7 +78,7 @@ pub begun-told : (H N : ℕ) (R : List ℤ) (P : List ℕ) → H % 3 ≡ 0 → N
 unfolding lose
 begun-told H N R P thirds few in-order e l =
     let r = live-row H N R thirds in-order l in
-    rw (names-at (startOf R e) most (start-vertex R e) (r .start-is) (omega (arith, r .start-in)), lt-leb N (start-vertex R e) (r .start-in))
+    rw (names-at (startOf R e) N (start-vertex R e) (r .start-is) (r .start-in))
     (collapse-goes H N (begin R (put-triple (start-vertex R e) nan P) N) thirds in-order (partner R e) (partner-live H N R thirds in-order l) refl)
 
 -- the walk writes no number but props: every start, end and pair is as it was

@@ -25,10 +25,10 @@ use Rattle.net.proofs.Sound.{live-row, next-live}
 use Rattle.turning.specs.Fan.{iter}
 use Rattle.turning.proofs.Orbit.{iter-suc}
 use Rattle.steps.specs.Steps.{Middle, refused, with-rows}
-use Rattle.walks.specs.Walk.{onward, moved, walk}
+use Rattle.walks.specs.Walk.{onward, moved, walk-to}
 use Rattle.walks.specs.Way.{move, OnWay}
 use Rattle.walks.proofs.Kept.{length-moved, other-moved}
-use Rattle.walks.proofs.Told.{moved-end, moved-start, unmoved-end, unmoved-start, move-live, AsTold, way-on}
+use Rattle.walks.proofs.Told.{moved-end, moved-start, unmoved-end, unmoved-start, move-live, AsTold, way-on, way-back}
 use Rattle.rings.specs.Ring.{Listing, ringed, listed-first, ring, carried, find, Turned, out, on, formed, Fixed, turn-at, turn-once, Spun, spun, tired, inner, spin}
 use Rattle.rings.proofs.Kept.{carried-kept}
 use Rattle.collapsetold.specs.Plain.{carry, along, meets}
@@ -96,13 +96,6 @@ module _ (H N : ℕ) (R : List ℤ) (thirds : H % 3 ≡ 0) (lent : H ≤ lent-ha
     off-way : {here g k : ℕ} → k ≤ 0 → iter (move R) k here ≡ to → OnWay R here to g → ⊥
     off-way {here} {g} {k} b e w = w .before 0 (omega arith) (ap (λ (i : ℕ). iter (move R) i here) (let z : 0 ≡ k = omega arith in z) ∙ e)
 
-    way-back : {here g : ℕ} → (g ≡ here → ⊥) → OnWay R here to g → OnWay R (move R here) to g
-    way-back {here} {g} m w = go (w .moves) (w .there) (w .before)
-      where
-        go : (k : ℕ) → iter (move R) k here ≡ g → ((j : ℕ) → j ≤ k → iter (move R) j here ≡ to → ⊥) → OnWay R (move R here) to g
-        go zero e b = absurd (m (sym e))
-        go (suc k) e b = record { moves = k; there = sym (iter-suc (move R) k here) ∙ e; before = λ j c q. b (suc j) (omega arith) (iter-suc (move R) j here ∙ q) }
-
     goes : {here : ℕ} (l : List ℤ) → SamePairs here l → Live H R here → (here ≡ to → ⊥) → names (pairOf l (next here)) H ≡ at (move R here)
     goes {here} l same a n =
         let k = next-live H N R thirds in-order a in
@@ -124,8 +117,8 @@ module _ (H N : ℕ) (R : List ℤ) (thirds : H % 3 ≡ 0) (lent : H ≤ lent-ha
     live-on a = move-live H N R thirds lent in-order a
 
     -- the walk that updates comes to its end
-    pub comes : (v n k here : ℕ) (l : List ℤ) → Live H R here → SamePairs here l → k ≤ n → iter (move R) k here ≡ to → walk H v to n l here .there ≡ true
-    unfolding walk
+    pub comes : (v n k here : ℕ) (l : List ℤ) → Live H R here → SamePairs here l → k ≤ n → iter (move R) k here ≡ to → walk-to H n v here to l .there ≡ true
+    unfolding walk-to
     comes v zero k here l a same b e = eq-eqb here to (ap (λ (i : ℕ). iter (move R) i here) (let z : 0 ≡ k = omega arith in z) ∙ e)
     comes v (suc n) k here l a same b e =
         by-test (eqb here to)
@@ -137,8 +130,8 @@ module _ (H N : ℕ) (R : List ℤ) (thirds : H % 3 ≡ 0) (lent : H ≤ lent-ha
 
     -- and what it leaves
     pub updated : (v n k here : ℕ) (l : List ℤ) → Live H R here → SamePairs here l → length l ≡ length R → k ≤ n → iter (move R) k here ≡ to → (g : ℕ) →
-        AsTold H N R thirds lent in-order v here to l (walk H v to n l here .rows) g
-    unfolding walk
+        AsTold H N R thirds lent in-order v here to l (walk-to H n v here to l .rows) g
+    unfolding walk-to
     updated v zero k here l a same len b e g = inr (off-way b e, (refl, refl))
     updated v (suc n) k here l a same len b e g =
         by-test (eqb here to)
@@ -160,7 +153,7 @@ module _ (H N : ℕ) (R : List ℤ) (thirds : H % 3 ≡ 0) (lent : H ≤ lent-ha
                   on-way m q,
                   (w .1 .0 ∙ ap (endOf (moved v here l)) q ∙ moved-end v here l d, w .1 .1 ∙ ap (λ (i : ℕ). startOf (moved v here l) (next i)) q ∙ moved-start v here l c),
                 )
-            by-row (no q) = inr (λ x. w .0 (way-back q x), (w .1 .0 ∙ unmoved-end v here l g q, w .1 .1 ∙ unmoved-start v here l g q))
+            by-row (no q) = inr (λ x. w .0 (way-back H N R thirds lent in-order q x), (w .1 .0 ∙ unmoved-end v here l g q, w .1 .1 ∙ unmoved-start v here l g q))
 
     -- what the walk lists: the nexts of the rows on its way
     pub record Lists (here : ℕ) (x : Listing) : Type 0 where
@@ -232,7 +225,7 @@ module _ (H N : ℕ) (R : List ℤ) (thirds : H % 3 ≡ 0) (lent : H ≤ lent-ha
               on-way (next (next e)) m r,
               w .1 ∙ ap (λ (i : ℕ). propOf (carry s here l) (next i)) r ∙ carried-here props references e p (next here) l room ∙ ap (λ (i : ℕ). prop-by props references e p l (next i)) (sym r),
             )
-            by-row (no r) = inr (λ x. w .0 (way-back (next (next e)) r x), w .1 ∙ carried-off props references e p (next here) l (next g) (λ z. r (next-inj g here z)))
+            by-row (no r) = inr (λ x. w .0 (way-back H N R thirds lent in-order r x), w .1 ∙ carried-off props references e p (next here) l (next g) (λ z. r (next-inj g here z)))
 
     -- a walk whose nexts end nowhere where a listed row does meets none
     pub meets-none : (len n here : ℕ) (l : List ℤ) → Live H R here → SamePairs (next (next e)) here l →

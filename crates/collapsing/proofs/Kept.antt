@@ -1,49 +1,35 @@
 -- What a collapse leaves alone, on any rows: the free rows behind those that it leaves in use; and it stays within the capacity.
 use mathlib.Core.Path.{_≡_, refl}
-use mathlib.Core.Bool.{Bool, true, false, cond}
-use mathlib.Core.List.{List, []}
-use Prim.Native.Nat.{ℕ, _<_, _≤_}
+use mathlib.Core.Bool.{Bool}
+use mathlib.Core.List.{List}
+use Prim.Native.Nat.{ℕ, _<_}
 use native.Mathlib.Nat.{le-refl}
 use native.Mathlib.Omega.{arith}
-use borrow.Author.Tests.{leb-false}
-use lib.Dec.{leb}
 use lib.IntN.{ℤ}
 use lib.ListN.{length}
 use Rattle.laws.proofs.Tests.{by-test}
 use Rattle.numbers.specs.Numbers.{Named, at, nothing, named-or}
 use Rattle.numbers.specs.Next.{next}
-use Rattle.rows.specs.Halfedges.{startOf}
-use Rattle.rows.specs.Triples.{lent-triples, put-triple}
-use Rattle.rows.proofs.Threes.{put-below, length-put}
-use Rattle.steps.specs.Steps.{Middle, refused, Stopped, ended, with-positions}
-use Rattle.steps.proofs.Frame.{Frame, frame-same, frame-step, frame-cond, frame-named, frame-ended, frame-positions}
+use Rattle.steps.specs.Steps.{Middle, refused, Stopped, ended}
+use Rattle.steps.proofs.Frame.{frame-ended}
 use Rattle.walks.specs.Walk.{onward, update}
 use Rattle.walks.proofs.Turns.{onward-below}
 use Rattle.walks.proofs.Kept.{frame-update}
 use Rattle.triangles.specs.Triangles.{collapse}
 use Rattle.triangles.proofs.Emptied.{frame-collapse}
-use Rattle.folds.specs.Folds.{nan, most, lose, fold}
-use Rattle.folds.proofs.Kept.{frame-fold}
+use Rattle.folds.specs.Folds.{lose, fold}
+use Rattle.folds.proofs.Kept.{lose-keeps, frame-fold}
 use Rattle.rings.specs.Ring.{Listing, ringed, endless, AllIn, ring, Fixed, Spun, spin}
 use Rattle.rings.proofs.Vertices.{update-same, lose-same, collapse-same, fold-same}
 use Rattle.rings.proofs.Kept.{ListingIn, ring-in, Fit, Steps, steps-same, steps-trans, fit-on, spin-keeps}
 use Rattle.collapsing.specs.declared.Tolerance.{Tolerance}
-use Rattle.collapsing.specs.Collapse.{Judgement, short, long, dead, unclosed, missing, judge, close, about, with-list, short-at, Trial, ran, by-judgement, collapse-at}
+use Rattle.collapsing.specs.Collapse.{Judgement, short, long, dead, unclosed, missing, judge, close, about, with-list, short-at, ran, by-judgement, collapse-at}
 use Rattle.collapsing.proofs.Judging.{InUseBy, in-use}
 
 module _ {H capacity : ℕ} where
   -- the steps, one by one
   lose-steps : (h : ℕ) (m : Middle) → Fit H capacity m → Steps H capacity m (lose h m)
-  unfolding lose
-  lose-steps h m f = record {
-    frame = frame-step m _ (frame-named m (startOf (m .halfedges) h) most m _ (λ v b. frame-cond (leb (m .run .vertices) v) _ _ (λ t. frame-ended m Stopped) (λ t. in-row v (leb-false (m .run .vertices) v t))) (frame-same m));
-    within = rw (lose-same h m) (f .within);
-  }
-    where
-      in-row : (v : ℕ) → v < m .run .vertices → Frame H m (with-positions (put-triple v nan (m .positions)) m)
-      in-row v l =
-          let room : v < lent-triples (m .positions) = omega (arith, f .within, f .lent) in
-          frame-positions m _ (put-below v nan (m .positions) room (m .run .vertices) l) (length-put v nan (m .positions) room)
+  lose-steps h m f = record { frame = lose-keeps {H = H} h m (omega (arith, f .within, f .lent)) .0; within = rw (lose-same h m) (f .within) }
 
   update-steps : (v from to : ℕ) (m : Middle) → Fit H capacity m → from < H → Steps H capacity m (update H v from to m)
   update-steps v from to m f b = record { frame = frame-update H v from to m b (f .thirds); within = rw (update-same H v from to m) (f .within) }

@@ -11,7 +11,7 @@ use Rattle.rows.specs.Triples.{triple, put-triple, reference, put-reference, ze
 use Rattle.pairing.specs.Pairing.{paired}
 use Rattle.steps.specs.declared.How.{How}
 use Rattle.steps.specs.Steps.{middle, running, begin, Going, NoRoom, Stopped}
-use Rattle.walks.specs.Walk.{onward, moved, walk, update}
+use Rattle.walks.specs.Walk.{onward, moved, walk-to, update}
 use Rattle.loops.specs.Loops.{append}
 use Rattle.example.specs.Example.{row, live-row, dead-row, P-rows}
 use Rattle.searches.specs.Seek.{seek}
@@ -138,5 +138,5 @@ cases =
     ∷ []
 
 pub cases-hold : map result cases ≡ map (λ (k : Case). k .leaves) cases
-unfolding dedupe-at insert insert-at pair-new copy-end second seek add join face beside append-triangle relabel copy-of copy-round append update walk onward moved paired triple put-triple reference put-reference append-row zero-rows zero-triples zero-references column set-column next
+unfolding dedupe-at insert insert-at pair-new copy-end second seek add join face beside append-triangle relabel copy-of copy-round append update walk-to onward moved paired triple put-triple reference put-reference append-row zero-rows zero-triples zero-references column set-column next
 cases-hold = refl

@@ -22,7 +22,7 @@ use Rattle.net.specs.Sound.{partner, LiveRow, Live}
 use Rattle.net.proofs.Sound.{live-row, live-row-live, next-live, pair-involution}
 use Rattle.pairing.specs.Pairing.{paired}
 use Rattle.steps.specs.Steps.{middle, running, NoRoom, begin}
-use Rattle.walks.specs.Walk.{walk, update}
+use Rattle.walks.specs.Walk.{walk-to, update}
 use Rattle.turning.specs.Fan.{Turning}
 use Rattle.turning.proofs.Orbit.{reach-trans, reach-sym, live-reach}
 use Rattle.walks.specs.Way.{move, Reached, OnWay}
@@ -174,9 +174,9 @@ module _ (l : Limits) (e v least : ℕ) (w : Growing) (g : Went l e v least w) (
 
   -- the walk from here to other
   abbrev rows1 : List ℤ
-  rows1 = walk H N other H rows here .rows
+  rows1 = walk-to H H N here other rows .rows
 
-  there : walk H N other H rows here .there ≡ true
+  there : walk-to H H N here other rows .there ≡ true
   there =
       walk-there H N rows thirds long (g .in-order) N other H here rows lh (λ k. refl)
       ∙ reach-soon H N rows thirds long (g .in-order) here other lh (reach-trans (move rows) (reach-sym T lc (1, refl)) (reach-sym T lo reached))

@@ -19,7 +19,7 @@ use Rattle.net.specs.Sound.{partner, InOrder, Live}
 use Rattle.net.proofs.Sound.{live-row, next-live, partner-live}
 use Rattle.pairing.specs.Pairing.{paired}
 use Rattle.steps.specs.Steps.{middle, is-refused, NoRoom, begin}
-use Rattle.walks.specs.Walk.{onward, moved, walk, update}
+use Rattle.walks.specs.Walk.{onward, moved, walk-to, update}
 use Rattle.walks.specs.Way.{move, Reached}
 use Rattle.walks.proofs.Kept.{length-moved, moved-below, other-moved, length-walk, walk-below, other-walk}
 use Rattle.walks.proofs.Told.{AsTold, moving, move-live, moved-end, moved-start, unmoved-end, unmoved-start, walk-there, walk-told, reach-soon}
@@ -55,9 +55,9 @@ module _ (H N : ℕ) (rows : List ℤ) (thirds : H % 3 ≡ 0) (lent : H ≤ lent
   pairs0 g = other-moved N p rows pair (λ z. omega arith) (λ z. omega arith) g
 
   abbrev round : List ℤ
-  round = walk H N p H rows0 q .rows
+  round = walk-to H H N q p rows0 .rows
 
-  there : walk H N p H rows0 q .there ≡ true
+  there : walk-to H H N q p rows0 .there ≡ true
   there =
       walk-there H N rows thirds lent in-order N p H q rows0 lq pairs0
       ∙ reach-soon H N rows thirds lent in-order q p lq (reach-sym (moving H N rows thirds lent in-order) lp (1, refl))

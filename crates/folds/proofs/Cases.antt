@@ -9,7 +9,7 @@ use Rattle.rows.specs.Triples.{put-triple}
 use Rattle.pairing.specs.Pairing.{paired}
 use Rattle.steps.specs.Steps.{running, begin, Stopped}
 use Rattle.example.specs.Example.{row, live-row, dead-row}
-use Rattle.folds.specs.Folds.{lose, lose-folded, has-pair, joined, join, cleared, clear, take-out, fold-at, fold}
+use Rattle.folds.specs.Folds.{lose, lose-folded, has-pair, outer-paired, join, gone-row, clear, take-out, fold-at, fold}
 
 -- four positions
 abbrev places : List ℕ
@@ -42,5 +42,5 @@ damaged =
     × (fold 6 0 (begin (first (row (negsuc 0) (pos 1) (pos 3))) places 3) ≡ begin (gone3 ++ gone3) (10 ∷ 11 ∷ 12 ∷ n ∷ n ∷ n ∷ n ∷ n ∷ n ∷ 40 ∷ 41 ∷ 42 ∷ []) 3)))))
 
 pub damaged-hold : damaged
-unfolding fold fold-at take-out clear cleared join joined has-pair lose-folded lose paired put-triple column set-column next
+unfolding fold fold-at take-out clear gone-row join outer-paired has-pair lose-folded lose paired put-triple column set-column next
 damaged-hold = (refl, (refl, (refl, (refl, (refl, refl)))))

@@ -1,18 +1,17 @@
 -- What the step of remove_if_folded leaves alone, on any rows: the free rows. It writes rows and positions in use only.
-use mathlib.Core.Path.{_≡_, _∙_}
+use mathlib.Core.Path.{_≡_, refl, _∙_}
 use mathlib.Core.Bool.{Bool, cond, _&&_, _||_, not}
 use mathlib.Core.List.{List}
 use Prim.Native.Nat.{ℕ, _%_, _<_, _≤_}
 use native.Mathlib.Omega.{arith}
-use borrow.Author.Tests.{leb-false}
-use lib.Dec.{leb}
 use lib.IntN.{ℤ}
 use lib.ListN.{length}
 use Rattle.laws.specs.Integers.{eqZ}
 use Rattle.laws.proofs.Tests.{by-test}
 use Rattle.numbers.specs.Numbers.{Named, at, nothing, names, named-or}
 use Rattle.numbers.specs.Next.{next}
-use Rattle.rows.specs.Halfedges.{prop, startOf, endOf, pairOf, none, is-paired, lent-halfedges, rows-from}
+use Rattle.numbers.proofs.Names.{names-below}
+use Rattle.rows.specs.Halfedges.{prop, startOf, endOf, pairOf, none, is-paired, is-started, lent-halfedges, rows-from}
 use Rattle.rows.specs.Triples.{lent-triples, put-triple}
 use Rattle.rows.proofs.Columns.{empty-below, length-empty, written-below, length-written}
 use Rattle.rows.proofs.Threes.{put-below, length-put}
@@ -21,31 +20,32 @@ use Rattle.pairing.proofs.Told.{paired-up}
 use Rattle.steps.specs.Steps.{Middle, refused, Stopped, ended, with-positions}
 use Rattle.steps.proofs.Frame.{Frame, frame-same, frame-trans, frame-step, frame-cond, frame-named, frame-rows, frame-ended, frame-positions}
 use Rattle.triangles.proofs.Parts.{second-in, third-in}
-use Rattle.folds.specs.Folds.{nan, most, lose, lose-folded, has-pair, joined, join, cleared, clear, take-out, fold-at, fold}
+use Rattle.folds.specs.Folds.{nan, lose, lose-folded, has-pair, outer-paired, join, gone-row, clear, take-out, fold-at, fold}
 
 -- the vertices in use are lent
 abbrev pub Fits : Middle → Type 0
 Fits m = m .run .vertices ≤ lent-triples (m .positions)
 
-pub length-cleared : (h : ℕ) (l : List ℤ) → length (cleared h l) ≡ length l
-unfolding cleared
+pub length-cleared : (h : ℕ) (l : List ℤ) → length (gone-row h l) ≡ length l
+unfolding gone-row
 length-cleared h l = length-written prop h none _ ∙ length-empty h l
 
 module _ {H : ℕ} where
-  lose-keeps : (h : ℕ) (m : Middle) → Fits m → Frame H m (lose h m) × Fits (lose h m)
+  -- the start of a row is lost
+  pub lose-keeps : (h : ℕ) (m : Middle) → Fits m → Frame H m (lose h m) × Fits (lose h m)
   unfolding lose
-  lose-keeps h m fit = by-test (refused m) (λ t. rw t (frame-same m, fit)) (λ t. rw t (go (names (startOf (m .halfedges) h) most)))
+  lose-keeps h m fit = by-test (refused m) (λ t. rw t (frame-same m, fit)) (λ t. rw t (go (names (startOf (m .halfedges) h) (m .run .vertices)) refl))
     where
-      in-use : (v : ℕ) → (m .run .vertices ≤ v → ⊥) → Frame H m (with-positions (put-triple v nan (m .positions)) m) × Fits (with-positions (put-triple v nan (m .positions)) m)
+      in-use : (v : ℕ) → v < m .run .vertices → Frame H m (with-positions (put-triple v nan (m .positions)) m) × Fits (with-positions (put-triple v nan (m .positions)) m)
       in-use v n =
           let room : v < lent-triples (m .positions) = omega arith in
           let len = length-put v nan (m .positions) room in
           (frame-positions m _ (put-below v nan (m .positions) room (m .run .vertices) (omega arith)) len, omega arith)
 
-      go : (w : Named) → Frame H m (named-or m w (λ v. cond (leb (m .run .vertices) v) (ended Stopped m) (with-positions (put-triple v nan (m .positions)) m)))
-          × Fits (named-or m w (λ v. cond (leb (m .run .vertices) v) (ended Stopped m) (with-positions (put-triple v nan (m .positions)) m)))
-      go nothing = (frame-same m, fit)
-      go (at v) = by-test (leb (m .run .vertices) v) (λ t. rw t (frame-ended m Stopped, fit)) (λ t. rw t (in-use v (λ l. let k = leb-false (m .run .vertices) v t in omega arith)))
+      go : (w : Named) → names (startOf (m .halfedges) h) (m .run .vertices) ≡ w → Frame H m (named-or (cond (is-started (m .halfedges) h) (ended Stopped m) m) w (λ v. with-positions (put-triple v nan (m .positions)) m))
+          × Fits (named-or (cond (is-started (m .halfedges) h) (ended Stopped m) m) w (λ v. with-positions (put-triple v nan (m .positions)) m))
+      go nothing e = by-test (is-started (m .halfedges) h) (λ t. rw t (frame-ended m Stopped, fit)) (λ t. rw t (frame-same m, fit))
+      go (at v) e = in-use v (names-below (startOf (m .halfedges) h) (m .run .vertices) e)
 
   frame-lose-folded : (first second : Bool) (e e1 e2 f1 : ℕ) (m : Middle) → Fits m → Frame H m (lose-folded first second e e1 e2 f1 m)
   unfolding lose-folded
@@ -58,7 +58,7 @@ module _ {H : ℕ} where
       (λ t. lose-keeps f1 m fit .0)
 
   frame-join : (e1 e2 f1 f2 : ℕ) (m : Middle) → H ≤ lent-halfedges (m .halfedges) → Frame H m (join H e1 e2 f1 f2 m)
-  unfolding join joined
+  unfolding join outer-paired
   frame-join e1 e2 f1 f2 m lent =
       frame-step m _ (
       frame-named m (pairOf (m .halfedges) e1) H _ _ (λ a a-in.
@@ -71,8 +71,8 @@ module _ {H : ℕ} where
       frame-rows m _ (m .run .how) (y .behind H b-in c-in ∙ x .behind H a-in d-in) (y .same-length ∙ x .same-length))
       (frame-ended m Stopped)) (frame-ended m Stopped)) (frame-ended m Stopped)) (frame-ended m Stopped))
 
-  pub cleared-free : (h : ℕ) (l : List ℤ) → h < H → rows-from H (cleared h l) ≡ rows-from H l
-  unfolding cleared
+  pub cleared-free : (h : ℕ) (l : List ℤ) → h < H → rows-from H (gone-row h l) ≡ rows-from H l
+  unfolding gone-row
   cleared-free h l b = written-below prop h H none _ b ∙ empty-below h l H b
 
   frame-clear : (e e1 e2 : ℕ) (m : Middle) → e < H → e1 < H → e2 < H → Frame H m (clear e e1 e2 m)

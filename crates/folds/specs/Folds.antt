@@ -3,13 +3,13 @@
 use mathlib.Core.Bool.{Bool, false, cond, _&&_, _||_, not}
 use mathlib.Core.List.{List}
 use Prim.Native.Nat.{ℕ}
-use lib.Dec.{eqb, leb}
+use lib.Dec.{eqb}
 use lib.IntN.{ℤ}
 use Rattle.laws.specs.Integers.{eqZ}
 use Rattle.numbers.specs.Numbers.{Named, at, nothing, names, named-or}
 use Rattle.numbers.specs.Next.{next}
 use Rattle.rows.specs.declared.triples.Bits3.{Bits3}
-use Rattle.rows.specs.Halfedges.{prop, startOf, endOf, pairOf, none, is-paired, set-column, empty-row}
+use Rattle.rows.specs.Halfedges.{prop, startOf, endOf, pairOf, none, is-paired, is-started, set-column, empty-row}
 use Rattle.rows.specs.Triples.{put-triple}
 use Rattle.pairing.specs.Pairing.{paired}
 use Rattle.steps.specs.Steps.{Middle, refused, Stopped, ended, with-rows, with-positions}
@@ -18,16 +18,15 @@ use Rattle.steps.specs.Steps.{Middle, refused, Stopped, ended, with-rows, with-
 abbrev pub nan : Bits3
 nan = record { x = 0x7FF8000000000000; y = 0x7FF8000000000000; z = 0x7FF8000000000000 }
 
--- every number from 0 on that a row can hold is below this
-abbrev pub most : ℕ
-most = 2147483648
+-- where the start of h is no vertex in use: one below 0 is not lost, one beyond the vertices stops the steps
+abbrev pub beyond : ℕ → Middle → Middle
+beyond h m = cond (is-started (m .halfedges) h) (ended Stopped m) m
 
--- the start of h is lost: not one below 0; one beyond the vertices stops the steps
+-- the start of h is lost
 unfoldable pub lose : ℕ → Middle → Middle
 lose h m =
     cond (refused m) m
-    (named-or m (names (startOf (m .halfedges) h) most) (λ v.
-    cond (leb (m .run .vertices) v) (ended Stopped m) (with-positions (put-triple v nan (m .positions)) m)))
+    (named-or (beyond h m) (names (startOf (m .halfedges) h) (m .run .vertices)) (λ v. with-positions (put-triple v nan (m .positions)) m))
 
 -- what a fold loses: where e1 meets f2 and e2 meets f1, three starts; where e1 alone, its own; else that of f1
 unfoldable pub lose-folded : Bool → Bool → ℕ → ℕ → ℕ → ℕ → Middle → Middle
@@ -43,8 +42,8 @@ unfoldable pub has-pair : ℕ → List ℤ → ℕ → ℕ → Bool
 has-pair H rows h p = is-at (names (pairOf rows h) H) p
 
 -- the outer partners: a of e1 and d of f2 are paired, and b of e2 and c of f1
-unfoldable pub joined : ℕ → ℕ → ℕ → ℕ → List ℤ → List ℤ
-joined a b c d rows = paired b c (paired a d rows)
+unfoldable pub outer-paired : ℕ → ℕ → ℕ → ℕ → List ℤ → List ℤ
+outer-paired a b c d rows = paired b c (paired a d rows)
 
 unfoldable pub join : ℕ → ℕ → ℕ → ℕ → ℕ → Middle → Middle
 join H e1 e2 f1 f2 m =
@@ -53,22 +52,35 @@ join H e1 e2 f1 f2 m =
     named-or (ended Stopped m) (names (pairOf (m .halfedges) e2) H) (λ b.
     named-or (ended Stopped m) (names (pairOf (m .halfedges) f1) H) (λ c.
     named-or (ended Stopped m) (names (pairOf (m .halfedges) f2) H) (λ d.
-    with-rows (joined a b c d (m .halfedges)) m)))))
+    with-rows (outer-paired a b c d (m .halfedges)) m)))))
 
 -- a row emptied, its prop too; three rows
-unfoldable pub cleared : ℕ → List ℤ → List ℤ
-cleared h rows = set-column prop h none (empty-row h rows)
+unfoldable pub gone-row : ℕ → List ℤ → List ℤ
+gone-row h rows = set-column prop h none (empty-row h rows)
 
-abbrev pub cleared3 : ℕ → ℕ → ℕ → List ℤ → List ℤ
-cleared3 e e1 e2 rows = cleared e2 (cleared e1 (cleared e rows))
+abbrev pub gone-rows : ℕ → ℕ → ℕ → List ℤ → List ℤ
+gone-rows e e1 e2 rows = gone-row e2 (gone-row e1 (gone-row e rows))
 
 unfoldable pub clear : ℕ → ℕ → ℕ → Middle → Middle
-clear e e1 e2 m = cond (refused m) m (with-rows (cleared3 e e1 e2 (m .halfedges)) m)
+clear e e1 e2 m = cond (refused m) m (with-rows (gone-rows e e1 e2 (m .halfedges)) m)
 
--- both triangles are taken out
-unfoldable pub take-out : ℕ → Bool → Bool → ℕ → ℕ → ℕ → ℕ → ℕ → ℕ → Middle → Middle
-take-out H first second e e1 e2 f f1 f2 m =
-    clear f f1 f2 (clear e e1 e2 (join H e1 e2 f1 f2 (lose-folded first second e e1 e2 f1 m)))
+-- the rows of the two triangles
+pub record FoldRows : Type 0 where
+  pub e : ℕ
+  pub e1 : ℕ
+  pub e2 : ℕ
+  pub f : ℕ
+  pub f1 : ℕ
+  pub f2 : ℕ
+
+abbrev pub fold-rows : ℕ → ℕ → ℕ → ℕ → ℕ → ℕ → FoldRows
+fold-rows e e1 e2 f f1 f2 = record { e = e; e1 = e1; e2 = e2; f = f; f1 = f1; f2 = f2 }
+
+-- both are taken out
+unfoldable pub take-out : ℕ → Bool → Bool → FoldRows → Middle → Middle
+take-out H first second t m =
+    clear (t .f) (t .f1) (t .f2) (clear (t .e) (t .e1) (t .e2)
+    (join H (t .e1) (t .e2) (t .f1) (t .f2) (lose-folded first second (t .e) (t .e1) (t .e2) (t .f1) m)))
 
 -- they have folded: the same opposite vertex, and they meet again
 unfoldable pub fold-at : ℕ → ℕ → ℕ → Middle → Middle
@@ -76,7 +88,7 @@ fold-at H e f m =
     let first = has-pair H (m .halfedges) (next e) (next (next f)) in
     let second = has-pair H (m .halfedges) (next (next e)) (next f) in
     cond (eqZ (endOf (m .halfedges) (next e)) (endOf (m .halfedges) (next f)) && (first || second))
-    (take-out H first second e (next e) (next (next e)) f (next f) (next (next f)) m)
+    (take-out H first second (fold-rows e (next e) (next (next e)) f (next f) (next (next f))) m)
     m
 
 -- the step: nothing at an edge without pair, or where its second row's pair is −1

@@ -7,7 +7,7 @@ ghost use Rattle.numbers.specs.Next.{next};
 ghost use Rattle.numbers.specs.Numbers.{halfedgeNumber};
 ghost use Rattle.rows.specs.Halfedges.{lent-halfedges};
 ghost use Rattle.steps.specs.Steps.{middle, InUse, VerticesIn};
-ghost use Rattle.folds.specs.Folds.{lose, lose-folded, has-pair, joined, join, cleared, clear, take-out, fold-at, fold};
+ghost use Rattle.folds.specs.Folds.{fold-rows, beyond, lose, lose-folded, has-pair, outer-paired, join, gone-row, clear, take-out, fold-at, fold};
 use numbers::Halfedge;
 use numbers::NamedHalfedge;
 use numbers::NamedVertex;
@@ -16,8 +16,16 @@ use steps::Run;
 
 const NAN: u64 = 0x7FF8_0000_0000_0000;
 
-// Every vertex number that a row can hold is below this.
-const MOST: usize = 2_147_483_648;
+// Where the start of h names no vertex in use: nothing where it is below 0; the steps stop where it is beyond.
+fn beyond(rows: &[i32], run: Run, h: Halfedge) -> Run
+    requires { ⌜ halfedgeNumber h < lent-halfedges (now rows) ⌝ }
+    ensures { λ r. ⌜ ((p : List ℕ) → middle (now (rows .entry)) p r ≡ beyond (halfedgeNumber h) (middle (now (rows .entry)) p run)) × (r .vertices ≡ run .vertices) ⌝ }
+{
+    if halfedges::is_started(rows, h) {
+        return steps::stopped(run);
+    }
+    run
+}
 
 // The step that loses the start of h: nothing where that is below 0; it stops where that is beyond the vertices.
 pub fn lose_step(rows: &[i32], positions: &mut [u64], run: Run, h: Halfedge) -> Run
@@ -27,13 +35,9 @@ pub fn lose_step(rows: &[i32], positions: &mut [u64], run: Run, h: Halfedge) -> 
     if steps::refused(run) {
         return run;
     }
-    let NamedVertex::At(v) = rows::halfedges::start_of(rows, h, MOST) else {
-        return run;
+    let NamedVertex::At(v) = rows::halfedges::start_of(rows, h, run.vertices) else {
+        return beyond(rows, run, h);
     };
-    let vertices = run.vertices;
-    if vertices <= v.number() {
-        return steps::stopped(run);
-    }
     let nan = Bits3 {
         x: NAN,
         y: NAN,
@@ -83,7 +87,7 @@ fn lose_folded(
 // a and d are paired, and b and c.
 fn join_rows(rows: &mut [i32], halfedges: usize, a: Halfedge, b: Halfedge, c: Halfedge, d: Halfedge)
     requires { ⌜ ((halfedgeNumber a < halfedges) × ((halfedgeNumber b < halfedges) × ((halfedgeNumber c < halfedges) × (halfedgeNumber d < halfedges)))) × InUse halfedges (now rows) ⌝ }
-    ensures { λ _. ⌜ now (rows .exit) ≡ joined (halfedgeNumber a) (halfedgeNumber b) (halfedgeNumber c) (halfedgeNumber d) (now (rows .entry)) ⌝ }
+    ensures { λ _. ⌜ now (rows .exit) ≡ outer-paired (halfedgeNumber a) (halfedgeNumber b) (halfedgeNumber c) (halfedgeNumber d) (now (rows .entry)) ⌝ }
 {
     pairing::pair_rows(rows, a, d);
     pairing::pair_rows(rows, b, c);
@@ -124,7 +128,7 @@ fn join_step(
 // Empties a row, its prop too.
 fn clear_row(rows: &mut [i32], h: Halfedge)
     requires { ⌜ halfedgeNumber h < lent-halfedges (now rows) ⌝ }
-    ensures { λ _. ⌜ now (rows .exit) ≡ cleared (halfedgeNumber h) (now (rows .entry)) ⌝ }
+    ensures { λ _. ⌜ now (rows .exit) ≡ gone-row (halfedgeNumber h) (now (rows .entry)) ⌝ }
 {
     rows::halfedges::empty(rows, h);
     rows::halfedges::empty_prop(rows, h);
@@ -160,7 +164,7 @@ fn take_out(
     f2: Halfedge,
 ) -> Run
     requires { ⌜ ((halfedgeNumber e < halfedges) × ((halfedgeNumber e1 < halfedges) × ((halfedgeNumber e2 < halfedges) × ((halfedgeNumber f < halfedges) × ((halfedgeNumber f1 < halfedges) × (halfedgeNumber f2 < halfedges)))))) × (InUse halfedges (now rows) × VerticesIn (run .vertices) (now positions)) ⌝ }
-    ensures { λ r. ⌜ (middle (now (rows .exit)) (now (positions .exit)) r ≡ take-out halfedges first second (halfedgeNumber e) (halfedgeNumber e1) (halfedgeNumber e2) (halfedgeNumber f) (halfedgeNumber f1) (halfedgeNumber f2) (middle (now (rows .entry)) (now (positions .entry)) run)) × (r .vertices ≡ run .vertices) ⌝ }
+    ensures { λ r. ⌜ (middle (now (rows .exit)) (now (positions .exit)) r ≡ take-out halfedges first second (fold-rows (halfedgeNumber e) (halfedgeNumber e1) (halfedgeNumber e2) (halfedgeNumber f) (halfedgeNumber f1) (halfedgeNumber f2)) (middle (now (rows .entry)) (now (positions .entry)) run)) × (r .vertices ≡ run .vertices) ⌝ }
 {
     let lost = lose_folded(rows, positions, run, first, second, e, e1, e2, f1);
     let joined = join_step(rows, halfedges, lost, e1, e2, f1, f2);
@@ -186,7 +190,7 @@ fn fold_at(
     let f2 = f1.next();
     let first = is_pair(rows, halfedges, e1, f2);
     let second = is_pair(rows, halfedges, e2, f1);
-    if !(triangles::same_end(rows, e1, f1) & (first | second)) {
+    if !(halfedges::same_end(rows, e1, f1) & (first | second)) {
         return run;
     }
     take_out(
@@ -219,7 +223,7 @@ pub fn fold_step(
     if steps::refused(run) {
         return run;
     }
-    if !rows::corners::paired(rows, e.number()) | triangles::unpaired(rows, e.next()) {
+    if !halfedges::is_paired(rows, e) | halfedges::is_unpaired(rows, e.next()) {
         return run;
     }
     let NamedHalfedge::At(f) = rows::halfedges::pair_of(rows, e, halfedges) else {

@@ -15,19 +15,19 @@ use Rattle.pairing.specs.Pairing.{paired}
 use Rattle.pairing.proofs.Told.{paired-up}
 use Rattle.triangles.specs.Triangles.{Outside}
 use Rattle.triangles.proofs.Parts.{second-in, third-in}
-use Rattle.folds.specs.Folds.{joined, cleared, cleared3}
+use Rattle.folds.specs.Folds.{outer-paired, gone-row, gone-rows}
 use Rattle.folds.proofs.Kept.{length-cleared, cleared-free}
 use Rattle.foldsound.specs.Removed.{Outer, Gone, TakenOut}
 
 -- one row
 module _ (h : ℕ) (l : List ℤ) where
-  cleared-other : (c : Column) (g : ℕ) → (g ≡ h → ⊥) → column c (cleared h l) g ≡ column c l g
-  unfolding cleared
+  cleared-other : (c : Column) (g : ℕ) → (g ≡ h → ⊥) → column c (gone-row h l) g ≡ column c l g
+  unfolding gone-row
   cleared-other c g n = other-row c prop h g none _ n ∙ empty-other h l c g n
 
   module _ (room : h < lent-halfedges l) where
-    cleared-here : Gone (cleared h l) h
-    unfolding cleared
+    cleared-here : Gone (gone-row h l) h
+    unfolding gone-row
     cleared-here =
         let d = empty-here h l room in
         record {
@@ -39,10 +39,10 @@ module _ (h : ℕ) (l : List ℤ) where
           prop-none = column-written prop h none (empty-row h l) (rw (length-empty h l) room);
         }
 
-    cleared-stays : (g : ℕ) → Gone l g → Gone (cleared h l) g
+    cleared-stays : (g : ℕ) → Gone l g → Gone (gone-row h l) g
     cleared-stays g d = go (ℕ-discrete g h)
       where
-        go : Dec (g ≡ h) → Gone (cleared h l) g
+        go : Dec (g ≡ h) → Gone (gone-row h l) g
         go (yes e) = rw e cleared-here
         go (no n) = record {
           empty = record {
@@ -56,13 +56,13 @@ module _ (h : ℕ) (l : List ℤ) where
 -- the triangle of e
 module _ (e : ℕ) (l : List ℤ) where
   abbrev once : List ℤ
-  once = cleared e l
+  once = gone-row e l
 
   abbrev twice : List ℤ
-  twice = cleared (next e) once
+  twice = gone-row (next e) once
 
   abbrev thrice : List ℤ
-  thrice = cleared3 e (next e) (next (next e)) l
+  thrice = gone-rows e (next e) (next (next e)) l
 
   length-thrice : length thrice ≡ length l
   length-thrice = length-cleared (next (next e)) twice ∙ length-cleared (next e) once ∙ length-cleared e l
@@ -101,7 +101,7 @@ module _ (e : ℕ) (l : List ℤ) where
 -- both triangles
 module _ (e f : ℕ) (l : List ℤ) where
   abbrev pub six : List ℤ
-  six = cleared3 f (next f) (next (next f)) (cleared3 e (next e) (next (next e)) l)
+  six = gone-rows f (next f) (next (next f)) (gone-rows e (next e) (next (next e)) l)
 
   pub six-other : (c : Column) (g : ℕ) → Outer e f g → column c six g ≡ column c l g
   six-other c g o = thrice-other f (thrice e l) c g (o .off-other) ∙ thrice-other e l c g (o .off-first)
@@ -117,8 +117,8 @@ pub record JoinedUp (H a b c d : ℕ) (rows after : List ℤ) : Type 0 where
   pub behind : rows-from H after ≡ rows-from H rows
   pub same-length : length after ≡ length rows
 
-pub joined-up : (H a b c d : ℕ) (rows : List ℤ) → H ≤ lent-halfedges rows → a < H → b < H → c < H → d < H → JoinedUp H a b c d rows (joined a b c d rows)
-unfolding joined
+pub joined-up : (H a b c d : ℕ) (rows : List ℤ) → H ≤ lent-halfedges rows → a < H → b < H → c < H → d < H → JoinedUp H a b c d rows (outer-paired a b c d rows)
+unfolding outer-paired
 joined-up H a b c d rows lent a-in b-in c-in d-in =
     let x = paired-up a d rows (omega arith) (omega arith) in
     let k = x .same-length in

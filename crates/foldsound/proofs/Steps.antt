@@ -4,8 +4,7 @@ use mathlib.Core.Bool.{Bool, true, false, cond, _&&_, _||_}
 use mathlib.Core.List.{List}
 use mathlib.Core.Logic.{⊎-elim}
 use Prim.Native.Nat.{ℕ, _%_, _<_, _≤_}
-use native.Mathlib.Omega.{arith}
-use borrow.Author.Tests.{lt-leb, eqb-true, eqb-false, eq-eqb}
+use borrow.Author.Tests.{eqb-true, eqb-false, eq-eqb}
 use lib.Dec.{eqb}
 use lib.IntN.{ℤ, pos-ne-negsuc}
 use Rattle.laws.specs.Integers.{eqZ}
@@ -19,7 +18,7 @@ use Rattle.net.specs.Counts.{most-vertices}
 use Rattle.net.specs.Sound.{start-vertex, partner, LiveRow, InOrder, Live}
 use Rattle.net.proofs.Sound.{live-paired, live-row, next-live, partner-live, pair-involution}
 use Rattle.steps.specs.Steps.{Middle, running, Going, begin}
-use Rattle.folds.specs.Folds.{nan, most, lose, lose-folded, has-pair, joined, join, clear, take-out, fold-at, fold}
+use Rattle.folds.specs.Folds.{fold-rows, nan, lose, lose-folded, has-pair, outer-paired, join, clear, take-out, fold-at, fold}
 use Rattle.foldsound.specs.Removed.{SameOpposite, Former, Latter, Outer, TakenOut, Removed, both, only-former, only-latter, not-folded}
 use Rattle.foldsound.proofs.Cleared.{six, six-other, JoinedUp, joined-up, taken-out}
 use Rattle.foldsound.proofs.Lost.{lost-one, lost-more}
@@ -37,7 +36,7 @@ module _ (H N : ℕ) (rows : List ℤ) (thirds : H % 3 ≡ 0) (lent : H ≤ lent
   unfolding lose
   lose-live {h} l p =
       let r = row l in
-      rw (names-at (startOf rows h) most (start-vertex rows h) (r .start-is) (omega (arith, r .start-in)), lt-leb N (start-vertex rows h) (r .start-in))
+      rw (names-at (startOf rows h) N (start-vertex rows h) (r .start-is) (r .start-in))
 
   pair-test : {h : ℕ} (p : ℕ) → Live H rows h → has-pair H rows h p ≡ eqb (partner rows h) p
   unfolding has-pair
@@ -93,7 +92,7 @@ module _ (H N : ℕ) (rows : List ℤ) (thirds : H % 3 ≡ 0) (lent : H ≤ lent
         (put-triple (start-vertex rows f1) nan positions)
 
     abbrev out : List ℤ
-    out = six e f (joined a b c d rows)
+    out = six e f (outer-paired a b c d rows)
 
     lose-all : (first second : Bool) → lose-folded first second e e1 e2 f1 (begin rows positions N) ≡ begin rows (lost first second) N
     unfolding lose-folded
@@ -101,7 +100,7 @@ module _ (H N : ℕ) (rows : List ℤ) (thirds : H % 3 ≡ 0) (lent : H ≤ lent
     lose-all true false = lose-live (on l) positions
     lose-all false second = lose-live (on k) positions
 
-    join-all : (p : List ℕ) → join H e1 e2 f1 f2 (begin rows p N) ≡ begin (joined a b c d rows) p N
+    join-all : (p : List ℕ) → join H e1 e2 f1 f2 (begin rows p N) ≡ begin (outer-paired a b c d rows) p N
     unfolding join
     join-all p =
         rw (
@@ -111,7 +110,7 @@ module _ (H N : ℕ) (rows : List ℤ) (thirds : H % 3 ≡ 0) (lent : H ≤ lent
           names-at (pairOf rows f2) H d (on (on k) .paired) (row (on (on k)) .pair-in),
         )
 
-    take-all : (first second : Bool) → take-out H first second e e1 e2 f f1 f2 (begin rows positions N) ≡ begin out (lost first second) N
+    take-all : (first second : Bool) → take-out H first second (fold-rows e e1 e2 f f1 f2) (begin rows positions N) ≡ begin out (lost first second) N
     unfolding take-out clear
     take-all first second = rw (lose-all first second, join-all (lost first second))
 
@@ -135,10 +134,10 @@ module _ (H N : ℕ) (rows : List ℤ) (thirds : H % 3 ≡ 0) (lent : H ≤ lent
     abbrev Way : List ℤ → List ℕ → Type 0
     Way after later = Removed H N e f rows after positions later
 
-    away : (g : ℕ) → Outer e f g → pairOf out g ≡ pairOf (joined a b c d rows) g
-    away g o = six-other e f (joined a b c d rows) pair g o
+    away : (g : ℕ) → Outer e f g → pairOf out g ≡ pairOf (outer-paired a b c d rows) g
+    away g o = six-other e f (outer-paired a b c d rows) pair g o
 
-    joins : JoinedUp H a b c d rows (joined a b c d rows)
+    joins : JoinedUp H a b c d rows (outer-paired a b c d rows)
     joins = joined-up H a b c d rows lent (row (on l) .pair-in) (row (on (on l)) .pair-in) (row (on k) .pair-in) (row (on (on k)) .pair-in)
 
     gone : TakenOut H e f rows out

@@ -11,8 +11,8 @@ use Rattle.rows.specs.Triples.{triple, put-triple, over-triples, zero-triples}
 use Rattle.net.specs.Counts.{is-shaped, triangle-capacity-over, vertex-capacity-over, property-capacity-over}
 use Rattle.rowtests.specs.Order.{is-live, in-order, first-failing}
 use Rattle.pairing.specs.Pairing.{paired}
-use Rattle.walks.specs.Walk.{onward, moved, walk, update}
-use Rattle.folds.specs.Folds.{lose, lose-folded, has-pair, joined, join, cleared, clear, take-out, fold-at, fold}
+use Rattle.walks.specs.Walk.{onward, moved, walk-to, update}
+use Rattle.folds.specs.Folds.{lose, lose-folded, has-pair, outer-paired, join, gone-row, clear, take-out, fold-at, fold}
 use Rattle.example.specs.Example.{live-row, dead-row, P-rows, counts, bare}
 use Rattle.loops.specs.Loops.{append, copy, exchange, cross-at, cross, loop-at}
 use Rattle.formloop.specs.FormLoop.{Left, left, formAt, formNamed, formLoop}
@@ -103,5 +103,5 @@ cases =
     ∷ []
 
 pub cases-hold : map (λ (k : Case). formLoop (counts (k .halfedges) (k .vertices)) (bare (k .rows) (k .positions)) blank (k .spare-positions) (k .first) (k .second)) cases ≡ map (λ (k : Case). k .leaves) cases
-unfolding formLoop formNamed formAt loop-at cross cross-at exchange copy append update walk onward moved fold fold-at take-out clear cleared join joined has-pair lose-folded lose paired triple put-triple over-triples zero-triples over-rows column set-column next is-live in-order first-failing is-shaped triangle-capacity-over vertex-capacity-over property-capacity-over
+unfolding formLoop formNamed formAt loop-at cross cross-at exchange copy append update walk-to onward moved fold fold-at take-out clear gone-row join outer-paired has-pair lose-folded lose paired triple put-triple over-triples zero-triples over-rows column set-column next is-live in-order first-failing is-shaped triangle-capacity-over vertex-capacity-over property-capacity-over
 cases-hold = refl

@@ -8,7 +8,7 @@ ghost use lib.IntN.{ℤ};
 ghost use Rattle.numbers.specs.Numbers.{halfedgeNumber, vertexNumber};
 ghost use Rattle.rows.specs.Halfedges.{lent-halfedges};
 ghost use Rattle.rows.specs.Triples.{lent-triples, triple, put-triple, reference, put-reference};
-ghost use Rattle.steps.specs.Steps.{Middle, middle, running, Stopped, is-refused, InUse};
+ghost use Rattle.steps.specs.Steps.{Middle, middle, ended-run, Stopped, is-refused, InUse};
 ghost use Rattle.growth.specs.Growth.{growing, grown-to, Fits, FacesFit, VerticesFit, More, add, join, face, beside, relabel, copy-of, copy-round};
 use numbers::Halfedge;
 use numbers::NamedHalfedge;
@@ -135,7 +135,7 @@ pub fn beside_step(
 
 // The steps stop here, with the half-edges in use so far.
 pub fn halt(grown: Grown) -> Grown
-    ensures { λ r. ⌜ r ≡ grown-to (grown .halfedges) (running (grown .run .vertices) Stopped) ⌝ }
+    ensures { λ r. ⌜ r ≡ grown-to (grown .halfedges) (ended-run Stopped (grown .run)) ⌝ }
 {
     let run = grown.run;
     Grown {

@@ -13,10 +13,10 @@ use Rattle.soundness.specs.Check.{checkNet}
 use Rattle.rowtests.specs.Order.{is-live, in-order, first-failing}
 use Rattle.pairing.specs.Pairing.{paired, pairUp}
 use Rattle.steps.specs.Steps.{Middle, begin, Stopped, ended}
-use Rattle.walks.specs.Walk.{onward, moved, walk, update, reaches}
+use Rattle.walks.specs.Walk.{onward, moved, walk-to, update, reaches}
 use Rattle.updatevert.specs.UpdateVert.{updateAt, updateNamed, updateVert}
 use Rattle.triangles.specs.Triangles.{emptied, collapsed, collapse}
-use Rattle.folds.specs.Folds.{lose, lose-folded, has-pair, joined, join, cleared, clear, take-out, fold-at, fold}
+use Rattle.folds.specs.Folds.{lose, lose-folded, has-pair, outer-paired, join, gone-row, clear, take-out, fold-at, fold}
 use Rattle.ownertests.specs.declared.Eligible.the-variants as E
 use Rattle.ownertests.specs.Tests.{all-below, those-below, eligible, points-back, closes, owns, has-owners, owners}
 use Rattle.owners.specs.Scan.{scan, orbitOwners}
@@ -49,7 +49,7 @@ check-net = (refl, refl)
 -- the vertex, the first half-edge, the last; and of pair_up
 pub update-vert : (update-twice (pos 3) (pos 0) (pos 0) ≡ bad-number) × (update-twice (pos 0) (pos 6) (pos 6) ≡ bad-number) × (update-twice (pos 0) (pos 0) (pos 6) ≡ bad-number)
     × (pairUp (counts 6 3) (bare twice four) (pos 0) (pos 6) ≡ (bad-number, twice))
-unfolding updateVert updateNamed updateAt reaches walk onward moved pairUp paired checkNet column set-column next is-live in-order first-failing is-shaped triangle-capacity-over vertex-capacity-over property-capacity-over
+unfolding updateVert updateNamed updateAt reaches walk-to onward moved pairUp paired checkNet column set-column next is-live in-order first-failing is-shaped triangle-capacity-over vertex-capacity-over property-capacity-over
 update-vert = (refl, refl, refl, refl)
 
 -- the pair of row 2
@@ -63,11 +63,11 @@ begun rows = begin rows four 3
 
 -- a fold at row 0 loses vertices 0, 1 and then 3, which is not in use: it stops there, and the rows are not touched
 pub lost-vertex : (fold 6 0 (begun vertex-free) .halfedges ≡ vertex-free) × (fold 6 0 (begun vertex-free) .run ≡ ended Stopped (begun vertex-free) .run) × (lose 2 (begun vertex-free) ≡ ended Stopped (begun vertex-free))
-unfolding fold fold-at take-out clear cleared join joined has-pair lose-folded lose paired triple put-triple column set-column next
+unfolding fold fold-at take-out clear gone-row join outer-paired has-pair lose-folded lose paired triple put-triple column set-column next
 lost-vertex = (refl, refl, refl)
 
 pub walked-row : update 6 9 1 2 (begun partner-free) ≡ ended Stopped (begun (live-row 0 1 3 ++ live-row 1 9 5 ++ live-row 9 0 6 ++ live-row 1 0 0 ++ live-row 0 2 2 ++ live-row 2 1 1 ++ live-row 0 2 2 ++ dead-row ++ dead-row ++ dead-row ++ dead-row ++ dead-row))
-unfolding update walk onward moved column set-column next
+unfolding update walk-to onward moved column set-column next
 walked-row = refl
 
 pub outer-partner : (collapse 6 1 (begun partner-free) ≡ ended Stopped (begun partner-free)) × (collapse 6 0 (begun partner-free) ≡ ended Stopped (begun partner-free))

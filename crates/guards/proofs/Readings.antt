@@ -15,7 +15,7 @@ use Rattle.net.specs.Counts.{is-shaped, triangle-capacity-over, vertex-capacity
 use Rattle.rowtests.specs.Order.{is-live, in-order, first-failing}
 use Rattle.pairing.specs.Pairing.{paired, pairUp}
 use Rattle.steps.specs.Steps.{begin}
-use Rattle.walks.specs.Walk.{onward, moved, walk, update, reaches}
+use Rattle.walks.specs.Walk.{onward, moved, walk-to, update, reaches}
 use Rattle.triangles.specs.Triangles.{emptied, collapsed, collapse}
 use Rattle.formloop.specs.FormLoop.{formNamed, formLoop}
 use Rattle.example.specs.Example.{live-row, dead-row, P-positions, counts, bare}
@@ -42,8 +42,8 @@ rounded-once-each = (refl, refl, refl)
 abbrev own : List ℤ
 own = live-row 0 1 0 ++ live-row 1 2 1 ++ live-row 2 0 2
 
-pub longest-walk : (reaches 3 2 own 3 0 ≡ true) × (update 3 9 0 2 (begin own [] 0) ≡ begin (live-row 0 9 0 ++ live-row 9 9 1 ++ live-row 9 0 2) [] 0)
-unfolding reaches update walk onward moved column set-column next
+pub longest-walk : (reaches 3 3 0 2 own ≡ true) × (update 3 9 0 2 (begin own [] 0) ≡ begin (live-row 0 9 0 ++ live-row 9 9 1 ++ live-row 9 0 2) [] 0)
+unfolding reaches update walk-to onward moved column set-column next
 longest-walk = (refl, refl)
 
 -- a triangle whose second and third rows are each other's partners: they are paired, then emptied with the first. Rows emptied before

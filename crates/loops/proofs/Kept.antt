@@ -11,12 +11,12 @@ use Rattle.rows.specs.Triples.{lent-triples, triple, put-triple}
 use Rattle.rows.proofs.Threes.{length-put, triples-behind}
 use Rattle.pairing.specs.Pairing.{paired}
 use Rattle.pairing.proofs.Told.{paired-up}
-use Rattle.steps.specs.Steps.{Middle, middle, running, refused, Going, NoRoom, Stopped, ended}
+use Rattle.steps.specs.Steps.{Middle, middle, with-vertices, refused, NoRoom, Stopped, ended}
 use Rattle.steps.proofs.Frame.{Frame, frame-same, frame-trans, frame-step, frame-named, frame-rows, frame-ended}
-use Rattle.walks.specs.Walk.{walk, update}
-use Rattle.walks.proofs.Kept.{frame-update}
+use Rattle.walks.specs.Walk.{update}
+use Rattle.walks.proofs.Kept.{frame-update, update-vertices}
 use Rattle.folds.proofs.Kept.{frame-fold}
-use Rattle.loops.specs.Loops.{append, copy, exchange, cross-at, cross, loop-at}
+use Rattle.loops.specs.Loops.{across, append, copy, exchange, cross-at, cross, loop-at}
 
 -- the vertices in use are within the capacity, and the capacity is lent
 pub record Room (capacity : ℕ) (m : Middle) : Type 0 where
@@ -24,12 +24,12 @@ pub record Room (capacity : ℕ) (m : Middle) : Type 0 where
   pub lent : capacity ≤ lent-triples (m .positions)
 
 module _ {H : ℕ} (capacity : ℕ) where
-  appended : (v : ℕ) (m : Middle) → Room capacity m → Frame H m (append capacity v m) × Room capacity (append capacity v m)
+  pub append-keeps : (v : ℕ) (m : Middle) → Room capacity m → Frame H m (append capacity v m) × Room capacity (append capacity v m)
   unfolding append
-  appended v m r = by-test (leb capacity (m .run .vertices)) (λ t. rw t (frame-ended m NoRoom, record { within = r .within; lent = r .lent })) (λ t. rw t (grown (leb-false capacity (m .run .vertices) t)))
+  append-keeps v m r = by-test (leb capacity (m .run .vertices)) (λ t. rw t (frame-ended m NoRoom, record { within = r .within; lent = r .lent })) (λ t. rw t (grown (leb-false capacity (m .run .vertices) t)))
     where
-      grown : m .run .vertices < capacity → Frame H m (middle (m .halfedges) (put-triple (m .run .vertices) (triple (m .positions) v) (m .positions)) (running (m .run .vertices + 1) Going))
-          × Room capacity (middle (m .halfedges) (put-triple (m .run .vertices) (triple (m .positions) v) (m .positions)) (running (m .run .vertices + 1) Going))
+      grown : m .run .vertices < capacity → Frame H m (middle (m .halfedges) (put-triple (m .run .vertices) (triple (m .positions) v) (m .positions)) (with-vertices (m .run .vertices + 1) (m .run)))
+          × Room capacity (middle (m .halfedges) (put-triple (m .run .vertices) (triple (m .positions) v) (m .positions)) (with-vertices (m .run .vertices + 1) (m .run)))
       grown l =
           let room : m .run .vertices < lent-triples (m .positions) = omega (arith, r .lent) in
           let len = length-put (m .run .vertices) (triple (m .positions) v) (m .positions) room in (
@@ -42,19 +42,15 @@ module _ {H : ℕ} (capacity : ℕ) where
   copied c h m r = by-test (refused m) (λ t. rw t (frame-same m, r)) (λ t. rw t (go (names (column c (m .halfedges) h) (m .run .vertices))))
     where
       go : (w : Named) → Frame H m (named-or (ended Stopped m) w (λ v. append capacity v m)) × Room capacity (named-or (ended Stopped m) w (λ v. append capacity v m))
-      go (at v) = appended v m r
+      go (at v) = append-keeps v m r
       go nothing = (frame-ended m Stopped, record { within = r .within; lent = r .lent })
 
--- walks and exchanges leave the positions and the vertices in use
-update-vertices : (H v from to : ℕ) (m : Middle) → update H v from to m .run .vertices ≡ m .run .vertices
-unfolding update
-update-vertices H v from to m = by-test (refused m) (λ t. rw t) (λ t. rw t (by-test (walk H v to H (m .halfedges) from .there) (λ u. rw u) (λ u. rw u)))
-
-exchange-vertices : (a b p q : ℕ) (m : Middle) → exchange a b p q m .run .vertices ≡ m .run .vertices
+-- an exchange leaves the vertices in use
+exchange-vertices : (a b p q : ℕ) (m : Middle) → exchange (across a b p q) m .run .vertices ≡ m .run .vertices
 unfolding exchange
 exchange-vertices a b p q m = by-test (refused m) (λ t. rw t) (λ t. rw t)
 
-frame-exchange : (H a b p q : ℕ) (m : Middle) → a < H → b < H → p < H → q < H → H ≤ lent-halfedges (m .halfedges) → Frame H m (exchange a b p q m)
+frame-exchange : (H a b p q : ℕ) (m : Middle) → a < H → b < H → p < H → q < H → H ≤ lent-halfedges (m .halfedges) → Frame H m (exchange (across a b p q) m)
 unfolding exchange
 frame-exchange H a b p q m ha hb hp hq lent =
     let x = paired-up a q (m .halfedges) (omega arith) (omega arith) in
@@ -62,12 +58,12 @@ frame-exchange H a b p q m ha hb hp hq lent =
     let y = paired-up b p (paired a q (m .halfedges)) (omega arith) (omega arith) in
     frame-step m _ (frame-rows m _ (m .run .how) (y .behind H hb hp ∙ x .behind H ha hq) (y .same-length ∙ x .same-length))
 
-frame-cross-at : (H v w a b p q : ℕ) (m : Middle) → a < H → b < H → p < H → q < H → H % 3 ≡ 0 → H ≤ lent-halfedges (m .halfedges) → m .run .vertices ≤ lent-triples (m .positions) → Frame H m (cross-at H v w a b p q m)
+frame-cross-at : (H v w a b p q : ℕ) (m : Middle) → a < H → b < H → p < H → q < H → H % 3 ≡ 0 → H ≤ lent-halfedges (m .halfedges) → m .run .vertices ≤ lent-triples (m .positions) → Frame H m (cross-at H v w (across a b p q) m)
 unfolding cross-at
 frame-cross-at H v w a b p q m ha hb hp hq thirds lent fits =
     let one = update H v p q m in
     let two = update H w b a one in
-    let three = exchange a b p q two in
+    let three = exchange (across a b p q) two in
     let x = frame-update H v p q m hp thirds in
     let y = frame-update H w b a one hb thirds in
     let l1 = x .rows-lent in

@@ -7,7 +7,7 @@ ghost use lib.IntN.{ℤ};
 ghost use Rattle.numbers.specs.Numbers.{halfedgeNumber, vertexNumber};
 ghost use Rattle.rows.specs.Halfedges.{start, end, lent-halfedges};
 ghost use Rattle.steps.specs.Steps.{middle, InUse, VerticesIn};
-ghost use Rattle.loops.specs.Loops.{append, copy, exchange, cross-at, cross, loop-at};
+ghost use Rattle.loops.specs.Loops.{across, append, copy, exchange, cross-at, cross, loop-at};
 use numbers::Halfedge;
 use numbers::NamedHalfedge;
 use numbers::NamedVertex;
@@ -25,7 +25,7 @@ pub fn append_copy(positions: &mut [u64], capacity: usize, run: Run, v: Vertex) 
     }
     let p = rows::triples::position_of(positions, v);
     rows::triples::append_position(positions, vertices, p);
-    steps::begun(vertices + 1)
+    steps::with_vertices(run, vertices + 1)
 }
 
 // The step that appends a copy of the position where h starts: it stops where that vertex isn't there.
@@ -67,7 +67,7 @@ fn exchange_step(
     q: Halfedge,
 ) -> Run
     requires { ⌜ ((halfedgeNumber a < halfedges) × ((halfedgeNumber b < halfedges) × ((halfedgeNumber p < halfedges) × (halfedgeNumber q < halfedges)))) × InUse halfedges (now rows) ⌝ }
-    ensures { λ r. ⌜ ((o : List ℕ) → middle (now (rows .exit)) o r ≡ exchange (halfedgeNumber a) (halfedgeNumber b) (halfedgeNumber p) (halfedgeNumber q) (middle (now (rows .entry)) o run)) × (r .vertices ≡ run .vertices) ⌝ }
+    ensures { λ r. ⌜ ((o : List ℕ) → middle (now (rows .exit)) o r ≡ exchange (across (halfedgeNumber a) (halfedgeNumber b) (halfedgeNumber p) (halfedgeNumber q)) (middle (now (rows .entry)) o run)) × (r .vertices ≡ run .vertices) ⌝ }
 {
     if steps::refused(run) {
         return run;
@@ -91,7 +91,7 @@ fn cross_at(
     q: Halfedge,
 ) -> Run
     requires { ⌜ ((halfedgeNumber a < halfedges) × ((halfedgeNumber b < halfedges) × ((halfedgeNumber p < halfedges) × (halfedgeNumber q < halfedges)))) × (((vertexNumber v < 2 ^ 31) × (vertexNumber w < 2 ^ 31)) × (InUse halfedges (now rows) × VerticesIn (run .vertices) (now positions))) ⌝ }
-    ensures { λ r. ⌜ (middle (now (rows .exit)) (now (positions .exit)) r ≡ cross-at halfedges (vertexNumber v) (vertexNumber w) (halfedgeNumber a) (halfedgeNumber b) (halfedgeNumber p) (halfedgeNumber q) (middle (now (rows .entry)) (now (positions .entry)) run)) × (r .vertices ≡ run .vertices) ⌝ }
+    ensures { λ r. ⌜ (middle (now (rows .exit)) (now (positions .exit)) r ≡ cross-at halfedges (vertexNumber v) (vertexNumber w) (across (halfedgeNumber a) (halfedgeNumber b) (halfedgeNumber p) (halfedgeNumber q)) (middle (now (rows .entry)) (now (positions .entry)) run)) × (r .vertices ≡ run .vertices) ⌝ }
 {
     let first = walks::update_step(rows, halfedges, run, v, p, q);
     let second = walks::update_step(rows, halfedges, first, w, b, a);

@@ -11,7 +11,7 @@ use Rattle.rows.specs.Triples.{triple, put-triple, over-triples, zero-triples}
 use Rattle.net.specs.Counts.{is-shaped, triangle-capacity-over, vertex-capacity-over, property-capacity-over}
 use Rattle.rowtests.specs.Order.{is-live, in-order, first-failing}
 use Rattle.pairing.specs.Pairing.{paired}
-use Rattle.walks.specs.Walk.{onward, moved, walk, update}
+use Rattle.walks.specs.Walk.{onward, moved, walk-to, update}
 use Rattle.folds.specs.Folds.{has-pair, fold-at, fold}
 use Rattle.example.specs.Example.{live-row, counts, bare}
 use Rattle.loops.specs.Loops.{append, copy, exchange, cross-at, cross, loop-at}
@@ -59,5 +59,5 @@ abbrev leaves : List ℤ → Left
 leaves rows = left (done (whole (pos 8) ∷ [])) rows with-copies crossed-over places
 
 pub cases-hold : (at-two (pos 0) (pos 12) ≡ leaves second-moved) × (at-two (pos 12) (pos 0) ≡ leaves first-moved)
-unfolding formLoop formNamed formAt loop-at cross cross-at exchange copy append update walk onward moved fold fold-at has-pair paired triple put-triple over-triples zero-triples over-rows column set-column next is-live in-order first-failing is-shaped triangle-capacity-over vertex-capacity-over property-capacity-over
+unfolding formLoop formNamed formAt loop-at cross cross-at exchange copy append update walk-to onward moved fold fold-at has-pair paired triple put-triple over-triples zero-triples over-rows column set-column next is-live in-order first-failing is-shaped triangle-capacity-over vertex-capacity-over property-capacity-over
 cases-hold = (refl, refl)

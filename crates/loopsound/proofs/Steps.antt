@@ -20,14 +20,14 @@ use Rattle.net.proofs.Sound.{live-row, partner-live}
 use Rattle.pairing.specs.Pairing.{paired}
 use Rattle.steps.specs.declared.Run.{Run}
 use Rattle.steps.specs.Steps.{Middle, running, refused, Going, NoRoom, Stopped, begin, ended}
-use Rattle.walks.specs.Walk.{walk, update}
+use Rattle.walks.specs.Walk.{walk-to, update}
 use Rattle.walks.specs.Way.{Reached}
-use Rattle.walks.proofs.Kept.{length-walk, walk-below, other-walk}
+use Rattle.walks.proofs.Kept.{length-walk, walk-below, other-walk, update-refused, update-goes, update-stops}
 use Rattle.walks.proofs.Told.{AsTold, reach-soon, walk-there, walk-told}
 use Rattle.folds.specs.Folds.{fold}
 use Rattle.foldsound.specs.Removed.{Removed}
 use Rattle.foldsound.proofs.Steps.{fold-left, fold-goes, fold-in-order}
-use Rattle.loops.specs.Loops.{append, copy, exchange, cross-at, cross, loop-at}
+use Rattle.loops.specs.Loops.{across, append, copy, exchange, cross-at, cross, loop-at}
 use Rattle.loopsound.specs.Formed.{Crossed, Copied}
 use Rattle.loopsound.proofs.Crossed.{StillInOrder, still-in-order, crossed, corners}
 
@@ -40,11 +40,7 @@ cross-stays : (H v w a b : ℕ) (m : Middle) → refused m ≡ true → cross H 
 unfolding cross
 cross-stays H v w a b m t = rw t
 
-update-stays : (H v from to : ℕ) (m : Middle) → refused m ≡ true → update H v from to m ≡ m
-unfolding update
-update-stays H v from to m t = rw t
-
-exchange-stays : (a b p q : ℕ) (m : Middle) → refused m ≡ true → exchange a b p q m ≡ m
+exchange-stays : (a b p q : ℕ) (m : Middle) → refused m ≡ true → exchange (across a b p q) m ≡ m
 unfolding exchange
 exchange-stays a b p q m t = rw t
 
@@ -62,15 +58,6 @@ copy-full : (c : Column) (capacity h n v : ℕ) (rows : List ℤ) (p : List ℕ)
     copy c capacity h (begin rows p n) ≡ ended NoRoom (begin rows p n)
 unfolding copy append
 copy-full c capacity h n v rows p e l r = rw (names-at (column c rows h) n v e l, le-leb capacity n r)
-
--- a walk goes on where it comes to its end
-update-goes : (H v from to n : ℕ) (l : List ℤ) (p : List ℕ) → walk H v to H l from .there ≡ true → update H v from to (begin l p n) ≡ begin (walk H v to H l from .rows) p n
-unfolding update
-update-goes H v from to n l p t = rw t
-
-update-stops : (H v from to n : ℕ) (l : List ℤ) (p : List ℕ) → walk H v to H l from .there ≡ false → update H v from to (begin l p n) ≡ ended Stopped (begin (walk H v to H l from .rows) p n)
-unfolding update
-update-stops H v from to n l p t = rw t
 
 module _ (H N capacity : ℕ) (rows : List ℤ) (positions : List ℕ) (thirds : H % 3 ≡ 0) (lent : H ≤ lent-halfedges rows) (in-order : (h : ℕ) → h < H → InOrder H N rows h)
     (capacity-lent : capacity ≤ lent-triples positions) (capacity-most : capacity ≤ most-vertices) (in-use : N ≤ capacity)
@@ -121,10 +108,10 @@ module _ (H N capacity : ℕ) (rows : List ℤ) (positions : List ℕ) (thirds :
   m2 = begin rows twice (N + 2)
 
   abbrev rows1 : List ℤ
-  rows1 = walk H N q H rows p .rows
+  rows1 = walk-to H H N p q rows .rows
 
   abbrev rows2 : List ℤ
-  rows2 = walk H (N + 1) a H rows1 b .rows
+  rows2 = walk-to H H (N + 1) b a rows1 .rows
 
   abbrev pub exchanged-rows : List ℤ
   exchanged-rows = paired b p (paired a q rows2)
@@ -157,7 +144,7 @@ module _ (H N capacity : ℕ) (rows : List ℤ) (positions : List ℕ) (thirds :
         let y = copy-goes end capacity a (N + 1) (end-vertex rows a) rows once (r .end-is) (omega (arith, r .end-in)) (omega arith) in
         rw x (y ∙ ap (begin rows twice) (omega arith))
 
-    crosses : out ≡ fold H b (exchange a b p q (update H (N + 1) b a (update H N p q m2)))
+    crosses : out ≡ fold H b (exchange (across a b p q) (update H (N + 1) b a (update H N p q m2)))
     unfolding loop-at cross cross-at
     crosses =
         rw (
@@ -167,22 +154,22 @@ module _ (H N capacity : ℕ) (rows : List ℤ) (positions : List ℕ) (thirds :
         )
 
     -- from a walk that has stopped nothing goes on
-    stays : (m : Middle) → refused m ≡ true → fold H b (exchange a b p q m) ≡ m
+    stays : (m : Middle) → refused m ≡ true → fold H b (exchange (across a b p q) m) ≡ m
     stays m t = rw (exchange-stays a b p q m t) (fold-stays H b m t)
 
-    first-stops : walk H N q H rows p .there ≡ false → out .run ≡ running (N + 2) Stopped
+    first-stops : walk-to H H N p q rows .there ≡ false → out .run ≡ running (N + 2) Stopped
     first-stops t =
         let m = ended Stopped (begin rows1 twice (N + 2)) in
-        let e : out ≡ m = crosses ∙ rw (update-stops H N p q (N + 2) rows twice t, update-stays H (N + 1) b a m refl) (stays m refl) in
+        let e : out ≡ m = crosses ∙ rw (update-stops H N p q (N + 2) rows twice t, update-refused H (N + 1) b a m refl) (stays m refl) in
         ap (λ (m : Middle). m .run) e
 
-    second-stops : walk H N q H rows p .there ≡ true → walk H (N + 1) a H rows1 b .there ≡ false → out .run ≡ running (N + 2) Stopped
+    second-stops : walk-to H H N p q rows .there ≡ true → walk-to H H (N + 1) b a rows1 .there ≡ false → out .run ≡ running (N + 2) Stopped
     second-stops t u =
         let m = ended Stopped (begin rows2 twice (N + 2)) in
         let e : out ≡ m = crosses ∙ rw (update-goes H N p q (N + 2) rows twice t, update-stops H (N + 1) b a (N + 2) rows1 twice u) (stays m refl) in
         ap (λ (m : Middle). m .run) e
 
-    folds : walk H N q H rows p .there ≡ true → walk H (N + 1) a H rows1 b .there ≡ true → out ≡ fold H b (begin exchanged-rows twice (N + 2))
+    folds : walk-to H H N p q rows .there ≡ true → walk-to H H (N + 1) b a rows1 .there ≡ true → out ≡ fold H b (begin exchanged-rows twice (N + 2))
     unfolding exchange
     folds t u = crosses ∙ rw (update-goes H N p q (N + 2) rows twice t, update-goes H (N + 1) b a (N + 2) rows1 twice u)
 
@@ -211,7 +198,7 @@ module _ (H N capacity : ℕ) (rows : List ℤ) (positions : List ℕ) (thirds :
         }
 
     -- where both walks come to their ends
-    module _ (there1 : walk H N q H rows p .there ≡ true) (there2 : walk H (N + 1) a H rows1 b .there ≡ true) where
+    module _ (there1 : walk-to H H N p q rows .there ≡ true) (there2 : walk-to H H (N + 1) b a rows1 .there ≡ true) where
       told1 : Reached rows p q × ((g : ℕ) → AsTold H N rows thirds lent in-order N p q rows rows1 g)
       told1 = walk-told H N rows thirds lent in-order N p q rows lp (λ g. refl) refl there1
 
@@ -269,18 +256,18 @@ module _ (H N capacity : ℕ) (rows : List ℤ) (positions : List ℕ) (thirds :
     stopped : N + 2 ≤ capacity → (Reached rows p q → Reached rows b a → ⊥) → out .run ≡ running (N + 2) Stopped → Comes
     goes : Goes → Comes
 
-  first-there : Reached rows p q → walk H N q H rows p .there ≡ true
+  first-there : Reached rows p q → walk-to H H N p q rows .there ≡ true
   first-there r = walk-there H N rows thirds lent in-order N q H p rows lp (λ g. refl) ∙ reach-soon H N rows thirds lent in-order p q lp r
 
-  second-there : Reached rows b a → walk H (N + 1) a H rows1 b .there ≡ true
+  second-there : Reached rows b a → walk-to H H (N + 1) b a rows1 .there ≡ true
   second-there r = walk-there H N rows thirds lent in-order (N + 1) a H b rows1 lb pairs1 ∙ reach-soon H N rows thirds lent in-order b a lb r
 
   pub comes : Comes
   comes =
       by-test (leb (N + 2) capacity)
       (λ r. let room = leb-true (N + 2) capacity r in
-      by-test (walk H N q H rows p .there)
-      (λ t. by-test (walk H (N + 1) a H rows1 b .there)
+      by-test (walk-to H H N p q rows .there)
+      (λ t. by-test (walk-to H H (N + 1) b a rows1 .there)
       (λ u. goes (record {
         room = room;
         first-reached = told1 room t u .0;

@@ -67,7 +67,7 @@ module _ (c : Counts) (n : Net) where
 
   update-late : (v a b : ℕ) → Early (updateAt H v a b rows .0) → ⊥
   unfolding updateAt
-  update-late v a b = by-test (reaches H b rows H a) (λ t. rw t (λ e. omega (arith, e .0))) (λ t. rw t (λ e. omega (arith, e .1)))
+  update-late v a b = by-test (reaches H H a b rows) (λ t. rw t (λ e. omega (arith, e .0))) (λ t. rw t (λ e. omega (arith, e .1)))
 
   pub update-vert : (vertex first last : ℤ) →
       Refusals (of-sound c n nothing-asked (Names N vertex × (Names H first × Names H last)) (NamesLive c n first × NamesLive c n last)) said-first (λ s. (s, rows)) (updateVert c n vertex first last)

@@ -13,7 +13,7 @@ use Rattle.soundness.specs.Check.{checkNet}
 use Rattle.rowtests.specs.Order.{is-live, in-order, first-failing}
 use Rattle.pairing.specs.Pairing.{paired}
 use Rattle.example.specs.Example.{row-with-prop, live-row, dead-row, P-rows, counts, bare}
-use Rattle.folds.specs.Folds.{lose, lose-folded, has-pair, joined, join, cleared, clear, take-out, fold-at, fold}
+use Rattle.folds.specs.Folds.{lose, lose-folded, has-pair, outer-paired, join, gone-row, clear, take-out, fold-at, fold}
 use Rattle.removefolded.specs.RemoveIfFolded.{foldNamed, removeIfFolded}
 
 pub record Case : Type 0 where
@@ -83,5 +83,5 @@ cases =
     ∷ []
 
 pub cases-hold : map (λ (k : Case). removeIfFolded (counts (k .halfedges) (k .vertices)) (bare (k .rows) places) (k .halfedge)) cases ≡ map (λ (k : Case). (k .says, (k .leaves, k .lost))) cases
-unfolding removeIfFolded foldNamed fold fold-at take-out clear cleared join joined has-pair lose-folded lose paired put-triple checkNet column set-column next is-live in-order first-failing is-shaped triangle-capacity-over vertex-capacity-over property-capacity-over
+unfolding removeIfFolded foldNamed fold fold-at take-out clear gone-row join outer-paired has-pair lose-folded lose paired put-triple checkNet column set-column next is-live in-order first-failing is-shaped triangle-capacity-over vertex-capacity-over property-capacity-over
 cases-hold = refl

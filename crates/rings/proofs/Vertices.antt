@@ -10,12 +10,12 @@ use Rattle.laws.specs.Integers.{eqZ}
 use Rattle.laws.proofs.Tests.{by-test}
 use Rattle.numbers.specs.Numbers.{Named, at, nothing, names, named-or}
 use Rattle.numbers.specs.Next.{next}
-use Rattle.rows.specs.Halfedges.{Column, start, end, column, startOf, endOf, pairOf, none, is-paired}
+use Rattle.rows.specs.Halfedges.{Column, start, end, column, startOf, endOf, pairOf, none, is-paired, is-started}
 use Rattle.steps.specs.Steps.{Middle, refused, Stopped, ended}
-use Rattle.walks.specs.Walk.{walk, update}
+use Rattle.walks.specs.Walk.{walk-to, update}
 use Rattle.triangles.specs.Triangles.{collapse}
-use Rattle.folds.specs.Folds.{most, lose, lose-folded, has-pair, join, clear, take-out, fold-at, fold}
-use Rattle.loops.specs.Loops.{append, copy, exchange, cross-at, cross, loop-at}
+use Rattle.folds.specs.Folds.{fold-rows, lose, lose-folded, has-pair, join, clear, take-out, fold-at, fold}
+use Rattle.loops.specs.Loops.{across, append, copy, exchange, cross-at, cross, loop-at}
 
 -- x has as many vertices in use as m
 abbrev pub Same : Middle → Middle → Type 0
@@ -32,11 +32,11 @@ module _ (m : Middle) where
 
 pub update-same : (H v from to : ℕ) (m : Middle) → Same m (update H v from to m)
 unfolding update
-update-same H v from to m = same-cond m (refused m) m _ refl (same-cond m (walk H v to H (m .halfedges) from .there) _ _ refl refl)
+update-same H v from to m = same-cond m (refused m) m _ refl (same-cond m (walk-to H H v from to (m .halfedges) .there) _ _ refl refl)
 
 pub lose-same : (h : ℕ) (m : Middle) → Same m (lose h m)
 unfolding lose
-lose-same h m = same-cond m (refused m) m _ refl (same-named m (names (startOf (m .halfedges) h) most) m _ refl (λ v. same-cond m (leb (m .run .vertices) v) _ _ refl refl))
+lose-same h m = same-cond m (refused m) m _ refl (same-named m (names (startOf (m .halfedges) h) (m .run .vertices)) _ _ (same-cond m (is-started (m .halfedges) h) _ _ refl refl) (λ v. refl))
 
 pub collapse-same : (H e : ℕ) (m : Middle) → Same m (collapse H e m)
 unfolding collapse
@@ -62,7 +62,7 @@ clear-same : (e e1 e2 : ℕ) (m : Middle) → Same m (clear e e1 e2 m)
 unfolding clear
 clear-same e e1 e2 m = same-cond m (refused m) m _ refl refl
 
-take-out-same : (H : ℕ) (first second : Bool) (e e1 e2 f f1 f2 : ℕ) (m : Middle) → Same m (take-out H first second e e1 e2 f f1 f2 m)
+take-out-same : (H : ℕ) (first second : Bool) (e e1 e2 f f1 f2 : ℕ) (m : Middle) → Same m (take-out H first second (fold-rows e e1 e2 f f1 f2) m)
 unfolding take-out
 take-out-same H first second e e1 e2 f f1 f2 m =
     clear-same f f1 f2 _ ∙ clear-same e e1 e2 _ ∙ join-same H e1 e2 f1 f2 _ ∙ lose-folded-same first second e e1 e2 f1 m
@@ -77,7 +77,7 @@ fold-same H e m =
     same-cond m (eqZ (endOf (m .halfedges) (next e)) (endOf (m .halfedges) (next f)) && (first || second)) _ m
     (take-out-same H first second e (next e) (next (next e)) f (next f) (next (next f)) m) refl)))
 
-exchange-same : (a b p q : ℕ) (m : Middle) → Same m (exchange a b p q m)
+exchange-same : (a b p q : ℕ) (m : Middle) → Same m (exchange (across a b p q) m)
 unfolding exchange
 exchange-same a b p q m = same-cond m (refused m) m _ refl refl
 

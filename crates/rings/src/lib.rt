@@ -102,7 +102,7 @@ fn find(rows: &[i32], list: &[u32], halfedges: usize, len: usize, h: Halfedge) -
     let mut k = 0;
     while k < len {
         let g = entry(list, k);
-        if triangles::same_end(rows, h, g) {
+        if halfedges::same_end(rows, h, g) {
             return Hit::At(k);
         }
         k += 1;

@@ -10,7 +10,7 @@ use Rattle.rows.specs.Halfedges.{column, set-column, append-row, append-triangl
 use Rattle.rows.specs.Triples.{triple, put-triple}
 use Rattle.pairing.specs.Pairing.{paired}
 use Rattle.steps.specs.Steps.{middle, running, begin, Going, NoRoom}
-use Rattle.walks.specs.Walk.{onward, moved, walk, update}
+use Rattle.walks.specs.Walk.{onward, moved, walk-to, update}
 use Rattle.loops.specs.Loops.{append}
 use Rattle.example.specs.Example.{live-row, dead-row, P-rows}
 use Rattle.searches.specs.Seek.{seek}
@@ -70,5 +70,5 @@ cases =
     ∷ []
 
 holds : map (λ k. rounds (k .limits) (k .most) (k .net)) cases ≡ map (λ k. k .ends) cases
-unfolding rounds each fix still again search-rows search-row those is-duplicate is-in turns dedupe-at insert insert-at pair-new copy-end second seek add join face beside append-triangle relabel copy-of copy-round append update walk onward moved paired triple put-triple append-row column set-column next
+unfolding rounds each fix still again search-rows search-row those is-duplicate is-in turns dedupe-at insert insert-at pair-new copy-end second seek add join face beside append-triangle relabel copy-of copy-round append update walk-to onward moved paired triple put-triple append-row column set-column next
 holds = refl

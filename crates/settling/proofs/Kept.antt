@@ -1,34 +1,31 @@
 -- Each step of a growing net leaves alone what Grows says, on any rows, and stays within what there can be.
 use mathlib.Core.Path.{_≡_, refl, sym, _∙_}
-use mathlib.Core.Bool.{Bool, true, false, true≢false, cond}
-use mathlib.Core.List.{List}
+use mathlib.Core.Bool.{true, false, true≢false, cond}
 use Prim.Native.Nat.{ℕ, _+_, _/_, _%_, _<_, _≤_}
 use native.Mathlib.Nat.{le-refl}
 use native.Mathlib.Omega.{arith}
 use borrow.Author.Tests.{leb-false}
 use lib.Dec.{leb}
 use lib.IntN.{ℤ}
-use lib.ListN.{length}
 use Rattle.laws.proofs.Tests.{by-test}
 use Rattle.numbers.specs.Numbers.{Named, at, nothing, names, named-or}
 use Rattle.numbers.specs.Next.{next}
 use Rattle.numbers.proofs.Names.{names-below}
 use Rattle.rows.specs.Halfedges.{pairOf, append-triangle, lent-halfedges}
 use Rattle.rows.specs.Triples.{lent-triples, triple, put-triple, reference, put-reference}
-use Rattle.rows.proofs.Threes.{length-put, triples-behind}
 use Rattle.pairing.specs.Pairing.{paired}
 use Rattle.pairing.proofs.Told.{paired-up}
-use Rattle.steps.specs.Steps.{Middle, middle, running, refused, Going, NoRoom, Stopped, ended, with-rows}
-use Rattle.steps.proofs.Frame.{Frame, frame-same, frame-trans, frame-step, frame-named, frame-rows, frame-ended}
-use Rattle.walks.specs.Walk.{onward, moved, walk, update}
-use Rattle.walks.proofs.Kept.{length-moved, moved-below, frame-update}
-use Rattle.loops.specs.Loops.{append}
+use Rattle.steps.specs.Steps.{Middle, middle, refused, NoRoom, Stopped, ended, with-rows}
+use Rattle.steps.proofs.Frame.{Frame, frame-same, frame-trans, frame-rows, frame-ended}
+use Rattle.walks.specs.Walk.{onward, moved, update}
+use Rattle.walks.proofs.Kept.{length-moved, moved-below, frame-update, update-vertices}
+use Rattle.loops.proofs.Kept.{append-keeps}
 use Rattle.growth.specs.declared.Limits.{Limits}
-use Rattle.growth.specs.Growth.{Growing, growing, rows-of, halted, inside, halt, Fits, FacesFit, VerticesFit, add, join, face, beside, relabel, copy-of, copy-round}
+use Rattle.growth.specs.Growth.{Growing, growing, rows-of, halted, inside, halt, add, join, face, beside, relabel, copy-of, copy-round}
 pub use Rattle.growth.specs.Growth.{Fitting}
 use Rattle.growth.proofs.Fit.{grown-fits}
 use Rattle.growth.proofs.Triangle.{length-triangle, triangle-behind}
-use Rattle.settling.proofs.Appended.{Appended, appended-none, appended-put}
+use Rattle.settling.proofs.Appended.{appended-none, appended-put}
 use Rattle.settling.proofs.Grows.{Grows, grows-same, grows-trans, inside-grows}
 
 -- ---- steps that append no half-edge: half-edges and vertices in use stay
@@ -36,11 +33,7 @@ abbrev Stays : ℕ → Middle → Middle → Type 0
 Stays H a b = Frame H a b × (b .run .vertices ≡ a .run .vertices)
 
 pub update-stays : (H v from to : ℕ) (m : Middle) → from < H → H % 3 ≡ 0 → Stays H m (update H v from to m)
-unfolding update
-update-stays H v from to m b thirds = (frame-update H v from to m b thirds, same)
-  where
-    same : update H v from to m .run .vertices ≡ m .run .vertices
-    same = by-test (refused m) (λ t. rw t) (λ t. rw t (by-test (walk H v to H (m .halfedges) from .there) (λ u. rw u) (λ u. rw u)))
+update-stays H v from to m b thirds = (frame-update H v from to m b thirds, update-vertices H v from to m)
 
 stays-step : {H : ℕ} (m a : Middle) → Stays H m a → Stays H m (cond (refused m) m a)
 stays-step m a s = by-test (refused m) (λ t. rw t (frame-same m, refl)) (λ t. rw t s)
@@ -68,16 +61,11 @@ relabel-stays H x h m thirds =
 
 -- a copy of v: one vertex more, within the capacity
 copy-frame : {H : ℕ} (capacity v : ℕ) (m : Middle) → m .run .vertices ≤ capacity → capacity ≤ lent-triples (m .positions) → Frame H m (copy-of capacity v m) × (copy-of capacity v m .run .vertices ≤ capacity)
-unfolding copy-of append
+unfolding copy-of
 copy-frame {H} capacity v m within lent =
     by-test (refused m)
     (λ t. rw t (frame-same m, within))
-    (λ t. rw t (by-test (leb capacity (m .run .vertices)) (λ u. rw u (frame-ended m NoRoom, within)) (λ u. rw u (grown (leb-false capacity (m .run .vertices) u)))))
-  where
-    grown : m .run .vertices < capacity → Frame H m (middle (m .halfedges) (put-triple (m .run .vertices) (triple (m .positions) v) (m .positions)) (running (m .run .vertices + 1) Going)) × (m .run .vertices + 1 ≤ capacity)
-    grown l =
-        let room : m .run .vertices < lent-triples (m .positions) = omega arith in
-        (record { rows-free = refl; rows-lent = refl; grows = omega arith; positions-free = triples-behind (m .run .vertices) (triple (m .positions) v) (m .positions) room; positions-lent = length-put (m .run .vertices) (triple (m .positions) v) (m .positions) room }, omega arith)
+    (λ t. rw t (let k = append-keeps {H = H} capacity v m (record { within = within; lent = lent }) in (k .0, k .1 .within)))
 
 -- ---- a net that grows: within what there can be, and that is lent
 pub record Grew (l : Limits) (a b : Growing) : Type 0 where

@@ -13,7 +13,7 @@ use Rattle.net.specs.Net.{Net}
 use Rattle.net.specs.Counts.{halfedge-capacity-over, vertex-capacity-over}
 use Rattle.steps.specs.declared.How.{How}
 use Rattle.steps.specs.declared.How.the-variants as W
-use Rattle.steps.specs.Steps.{running, Going, begin, with-rows}
+use Rattle.steps.specs.Steps.{begun-run, begin, with-rows}
 use Rattle.steps.specs.Settle as S
 use Rattle.growth.specs.declared.Grown.{Grown}
 use Rattle.growth.specs.declared.Limits.{Limits}
@@ -33,7 +33,7 @@ limits-of c n = limits-over c (n .halfedges) (n .positions) (n .normals) (n .ref
 
 -- the steps begin, with H half-edges and N vertices in use
 abbrev pub begun-with : ℕ → ℕ → Grown
-begun-with H N = record { halfedges = H; run = running N Going }
+begun-with H N = record { halfedges = H; run = begun-run N }
 
 abbrev pub begun : ℕ → ℕ → List ℤ → List ℕ → List ℕ → List ℤ → Growing
 begun H N rows positions normals references = growing (begin rows positions N) H normals references

@@ -33,6 +33,16 @@ Stopped = H.Stopped
 abbrev pub running : ℕ → How → Run
 running vertices how = record { vertices = vertices; how = how }
 
+-- steps that begin with so many vertices in use; the same steps with so many in use; the same steps at their end
+abbrev pub begun-run : ℕ → Run
+begun-run vertices = running vertices Going
+
+abbrev pub with-vertices : ℕ → Run → Run
+with-vertices vertices r = record { vertices = vertices; how = r .how }
+
+abbrev pub ended-run : How → Run → Run
+ended-run how r = record { vertices = r .vertices; how = how }
+
 -- a step has refused
 abbrev pub is-refused : How → Bool
 is-refused H.Going = false
@@ -44,10 +54,10 @@ refused m = is-refused (m .run .how)
 
 -- the steps begin; they end here
 abbrev pub begin : List ℤ → List ℕ → ℕ → Middle
-begin h p vertices = middle h p (running vertices Going)
+begin h p vertices = middle h p (begun-run vertices)
 
 abbrev pub ended : How → Middle → Middle
-ended how m = middle (m .halfedges) (m .positions) (running (m .run .vertices) how)
+ended how m = middle (m .halfedges) (m .positions) (ended-run how (m .run))
 
 -- other half-edge rows; other positions
 abbrev pub with-rows : List ℤ → Middle → Middle

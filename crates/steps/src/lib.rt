@@ -5,7 +5,7 @@ ghost use mathlib.Core.Path.{_≡_};
 ghost use Prim.Native.Nat.{_≤_};
 ghost use Rattle.rows.specs.Halfedges.{lent-halfedges};
 ghost use Rattle.rows.specs.Triples.{lent-triples};
-ghost use Rattle.steps.specs.Steps.{middle, running, Going, NoRoom, Stopped, is-refused};
+ghost use Rattle.steps.specs.Steps.{middle, begun-run, with-vertices, ended-run, NoRoom, Stopped, is-refused};
 ghost use Rattle.steps.specs.Settle.{settled-by};
 
 // Whether the steps go on: the next append would pass a capacity; a row isn't there, or a walk never ends.
@@ -23,7 +23,7 @@ pub struct Run {
 
 // Steps that begin.
 pub fn begun(vertices: usize) -> Run
-    ensures { λ r. ⌜ r ≡ running vertices Going ⌝ }
+    ensures { λ r. ⌜ r ≡ begun-run vertices ⌝ }
 {
     Run {
         vertices: vertices,
@@ -31,9 +31,20 @@ pub fn begun(vertices: usize) -> Run
     }
 }
 
+// The same steps, with so many vertices in use.
+pub fn with_vertices(run: Run, vertices: usize) -> Run
+    ensures { λ r. ⌜ r ≡ with-vertices vertices run ⌝ }
+{
+    let how = run.how;
+    Run {
+        vertices: vertices,
+        how: how,
+    }
+}
+
 // The steps stop here: a row isn't there, or a walk never ends.
 pub fn stopped(run: Run) -> Run
-    ensures { λ r. ⌜ r ≡ running (run .vertices) Stopped ⌝ }
+    ensures { λ r. ⌜ r ≡ ended-run Stopped run ⌝ }
 {
     Run {
         vertices: run.vertices,
@@ -43,7 +54,7 @@ pub fn stopped(run: Run) -> Run
 
 // The steps stop here: there is no room.
 pub fn no_room(run: Run) -> Run
-    ensures { λ r. ⌜ r ≡ running (run .vertices) NoRoom ⌝ }
+    ensures { λ r. ⌜ r ≡ ended-run NoRoom run ⌝ }
 {
     Run {
         vertices: run.vertices,

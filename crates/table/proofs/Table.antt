@@ -19,7 +19,7 @@ use Rattle.rows.specs.Triples.{triple, put-triple, over-triples, zero-triples}
 use Rattle.net.specs.Counts.{is-shaped, triangle-capacity-over, vertex-capacity-over, property-capacity-over}
 use Rattle.net.specs.Sound.{turn}
 use Rattle.example.specs.Example.{rows, positions, P-rows, P-positions, counts, bare}
-use Rattle.folds.specs.Folds.{lose, lose-folded, has-pair, joined, join, cleared, clear, take-out, fold-at, fold}
+use Rattle.folds.specs.Folds.{lose, lose-folded, has-pair, outer-paired, join, gone-row, clear, take-out, fold-at, fold}
 use Rattle.removefolded.specs.RemoveIfFolded.{Out, foldNamed, removeIfFolded}
 use Rattle.pairing.specs.Pairing.{paired}
 use Rattle.soundness.specs.Check.{checkNet}
@@ -27,9 +27,9 @@ use Rattle.rowtests.specs.Order.{is-live, in-order, first-failing}
 use Rattle.splitting.specs.Split.{SplitOutcome, split-sound, splitPinched}
 use Rattle.splitting.specs.Steps.{flag-walk, relabel-walk, count-step, count-rows, split-step, split-rows}
 use Rattle.triangles.specs.Triangles.{emptied, collapsed, collapse}
-use Rattle.turning.specs.Walk.{walk as fan-walk, walk-end}
+use Rattle.turning.specs.Walk.{walk, walk-end}
 use Rattle.updatevert.specs.UpdateVert.{updateVert, updateNamed, updateAt}
-use Rattle.walks.specs.Walk.{reaches, walk, onward, moved, update}
+use Rattle.walks.specs.Walk.{reaches, walk-to, onward, moved, update}
 
 pub record Case : Type 0 where
   pub gives : Said
@@ -123,5 +123,5 @@ table =
     ∷ []
 
 pub table-holds : map (λ (k : Case). k .gives) table ≡ map (λ (k : Case). k .is) table
-unfolding collapseEdge collapseNamed collapseSettled collapse-at judge between short-at about close ring spin inner turn-once collapse collapsed emptied update over-rows over-triples removeIfFolded foldNamed fold fold-at take-out clear cleared join joined has-pair lose-folded lose paired splitPinched split-sound count-rows count-step split-rows split-step flag-walk relabel-walk fan-walk walk-end ℕ-discrete triple put-triple zero-triples next nextZ no-next column set-column add sub mul lt ofInt ofBits is-shaped triangle-capacity-over vertex-capacity-over property-capacity-over checkNet is-live in-order first-failing updateVert updateNamed updateAt reaches walk onward moved
+unfolding collapseEdge collapseNamed collapseSettled collapse-at judge between short-at about close ring spin inner turn-once collapse collapsed emptied update over-rows over-triples removeIfFolded foldNamed fold fold-at take-out clear gone-row join outer-paired has-pair lose-folded lose paired splitPinched split-sound count-rows count-step split-rows split-step flag-walk relabel-walk walk walk-end ℕ-discrete triple put-triple zero-triples next nextZ no-next column set-column add sub mul lt ofInt ofBits is-shaped triangle-capacity-over vertex-capacity-over property-capacity-over checkNet is-live in-order first-failing updateVert updateNamed updateAt reaches walk-to onward moved
 table-holds = refl

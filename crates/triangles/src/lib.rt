@@ -2,30 +2,12 @@
 ghost use mathlib.Core.Path.{_≡_};
 ghost use mathlib.Core.List.{List};
 ghost use Prim.Native.Nat.{ℕ, _<_};
-ghost use Rattle.laws.specs.Integers.{eqZ};
 ghost use Rattle.numbers.specs.Numbers.{halfedgeNumber};
-ghost use Rattle.rows.specs.Halfedges.{pairOf, endOf, none, lent-halfedges};
 ghost use Rattle.steps.specs.Steps.{middle, InUse};
 ghost use Rattle.triangles.specs.Triangles.{emptied, collapsed, collapse};
 use numbers::Halfedge;
 use numbers::NamedHalfedge;
 use steps::Run;
-
-// The pair of h is −1.
-pub fn unpaired(rows: &[i32], h: Halfedge) -> bool
-    requires { ⌜ halfedgeNumber h < lent-halfedges (now rows) ⌝ }
-    ensures { λ r. ⌜ r ≡ eqZ (pairOf (now (rows .entry)) (halfedgeNumber h)) none ⌝ }
-{
-    rows::corners::unpaired(rows, h.number())
-}
-
-// Two half-edges end at the same number.
-pub fn same_end(rows: &[i32], g: Halfedge, h: Halfedge) -> bool
-    requires { ⌜ (halfedgeNumber g < lent-halfedges (now rows)) × (halfedgeNumber h < lent-halfedges (now rows)) ⌝ }
-    ensures { λ r. ⌜ r ≡ eqZ (endOf (now (rows .entry)) (halfedgeNumber g)) (endOf (now (rows .entry)) (halfedgeNumber h)) ⌝ }
-{
-    rows::corners::same_end(rows, g.number(), h.number())
-}
 
 // Empties the three rows of the triangle of e, and keeps their props.
 fn empty_triangle(rows: &mut [i32], halfedges: usize, e: Halfedge)
@@ -57,7 +39,7 @@ pub fn collapse_step(rows: &mut [i32], halfedges: usize, run: Run, e: Halfedge) 
         return run;
     }
     let second = e.next();
-    if unpaired(rows, second) {
+    if halfedges::is_unpaired(rows, second) {
         return run;
     }
     let NamedHalfedge::At(a) = rows::halfedges::pair_of(rows, second, halfedges) else {

@@ -11,7 +11,7 @@ use Rattle.net.specs.Counts.{is-shaped, triangle-capacity-over, vertex-capacity
 use Rattle.soundness.specs.Check.{checkNet}
 use Rattle.rowtests.specs.Order.{is-live, in-order, first-failing}
 use Rattle.example.specs.Example.{live-row, dead-row, P-rows, P-positions, counts, bare}
-use Rattle.walks.specs.Walk.{onward, moved, reaches, walk}
+use Rattle.walks.specs.Walk.{onward, moved, reaches, walk-to}
 use Rattle.updatevert.specs.UpdateVert.{updateAt, updateNamed, updateVert}
 
 pub record Case : Type 0 where
@@ -59,5 +59,5 @@ cases =
     ∷ []
 
 pub cases-hold : map (λ (k : Case). updateVert (counts (k .halfedges) 3) (bare (k .rows) P-positions) (k .vertex) (k .start) (k .end)) cases ≡ map (λ (k : Case). (k .says, k .leaves)) cases
-unfolding updateVert updateNamed updateAt reaches walk onward moved checkNet column set-column next is-live in-order first-failing is-shaped triangle-capacity-over vertex-capacity-over property-capacity-over
+unfolding updateVert updateNamed updateAt reaches walk-to onward moved checkNet column set-column next is-live in-order first-failing is-shaped triangle-capacity-over vertex-capacity-over property-capacity-over
 cases-hold = refl

@@ -14,7 +14,8 @@ use Rattle.answers.proofs.Laws.{numbers-differ, first-value, read-back}
 use Rattle.laws.proofs.Tests.{by-test}
 use Rattle.numbers.specs.Numbers.{Named, at, nothing, names}
 use Rattle.numbers.proofs.Names.{names-at}
-use Rattle.rows.specs.Halfedges.{Column, start, end, pair, prop, offset, is-paired, lent-halfedges}
+use Rattle.rows.specs.Halfedges.{start, end, is-paired, lent-halfedges}
+use Rattle.rows.proofs.Columns.{columns-apart}
 use Rattle.net.specs.declared.Counts.{Counts}
 use Rattle.net.specs.Net.{Net}
 use Rattle.net.specs.Sound.{Live, Sound}
@@ -24,23 +25,11 @@ use Rattle.soundness.specs.Check.{checkNet}
 use Rattle.soundness.proofs.Told.{check-sound}
 use Rattle.updatevert.specs.declared.UpdateVert.{UpdateVert}
 use Rattle.updatevert.specs.declared.UpdateVert.the-variants as U
-use Rattle.walks.specs.Walk.{reaches, walk}
+use Rattle.walks.specs.Walk.{reaches, walk-to}
 use Rattle.updatevert.specs.UpdateVert.{updateSaid, updateAt, updateNamed, updateVert}
 use Rattle.walks.specs.Way.{Reached, Updated}
 use Rattle.walks.proofs.Told.{reach-soon, reach-was, walk-there, walk-told}
 use Rattle.walks.proofs.Kept.{length-walk, walk-below, other-walk}
-
-not-start : (k : Column) → (k ≡ start → ⊥) → offset k ≡ offset start → ⊥
-not-start start n e = n refl
-not-start end n e = omega arith
-not-start pair n e = omega arith
-not-start prop n e = omega arith
-
-not-end : (k : Column) → (k ≡ end → ⊥) → offset k ≡ offset end → ⊥
-not-end start n e = omega arith
-not-end end n e = n refl
-not-end pair n e = omega arith
-not-end prop n e = omega arith
 
 module _ (c : Counts) (n : Net) (vertex first last : ℤ) where
   abbrev H : ℕ
@@ -66,16 +55,16 @@ module _ (c : Counts) (n : Net) (vertex first last : ℤ) where
     lent : H ≤ lent-halfedges (n .halfedges)
     lent = within c n (sound .shaped) .halfedges-lent
 
-    reached-yes : Reached (n .halfedges) a b → reaches H b (n .halfedges) H a ≡ true
+    reached-yes : Reached (n .halfedges) a b → reaches H H a b (n .halfedges) ≡ true
     reached-yes r = reach-soon H (c .vertices) (n .halfedges) thirds lent (sound .in-order) a b a-live r
 
-    reached-was : reaches H b (n .halfedges) H a ≡ true → Reached (n .halfedges) a b
+    reached-was : reaches H H a b (n .halfedges) ≡ true → Reached (n .halfedges) a b
     reached-was e = reach-was H (c .vertices) (n .halfedges) thirds lent (sound .in-order) b H a a-live e
 
     pub update-done : (updateVert c n vertex first last .0 ≡ done []) ↔ Reached (n .halfedges) a b
     unfolding updateAt
     update-done = rw comes-to (
-      λ e. by-test (reaches H b (n .halfedges) H a) reached-was (λ t. numbers-differ (rw t at e) (λ z. omega arith)),
+      λ e. by-test (reaches H H a b (n .halfedges)) reached-was (λ t. numbers-differ (rw t at e) (λ z. omega arith)),
       λ r. rw (reached-yes r),
     )
 
@@ -83,7 +72,7 @@ module _ (c : Counts) (n : Net) (vertex first last : ℤ) where
     unfolding updateAt
     update-stopped = rw comes-to (
       λ e r. numbers-differ (rw (reached-yes r) at e) (λ z. omega arith),
-      λ m. by-test (reaches H b (n .halfedges) H a) (λ t. absurd (m (reached-was t))) (λ t. rw t),
+      λ m. by-test (reaches H H a b (n .halfedges)) (λ t. absurd (m (reached-was t))) (λ t. rw t),
     )
 
     pub update-updated : Reached (n .halfedges) a b → Updated H v a b (n .halfedges) (updateVert c n vertex first last .1)
@@ -96,13 +85,13 @@ module _ (c : Counts) (n : Net) (vertex first last : ℤ) where
           starts = λ g w. ⊎-elim (λ t. t .1 .1) (λ t. absurd (t .0 w)) (all g);
           other-ends = λ g m. ⊎-elim (λ t. absurd (m (t .0))) (λ t. t .1 .0) (all g);
           other-starts = λ g m. ⊎-elim (λ t. absurd (m (t .0))) (λ t. t .1 .1) (all g);
-          other-columns = λ k s e g. other-walk H v b H (n .halfedges) a (a-live .in-use) k (not-start k s) (not-end k e) g;
+          other-columns = λ k s e g. other-walk H v b H (n .halfedges) a (a-live .in-use) k (columns-apart k start s) (columns-apart k end e) g;
           behind = walk-below H v b H (n .halfedges) a (a-live .in-use) thirds;
           same-length = length-walk H v b H (n .halfedges) a (a-live .in-use);
         })
 
   abbrev both : ℕ → ℕ → ℕ → Bool → Bool → Said × List ℤ
-  both v a b t u = cond t (cond u (done [], walk H v b H (n .halfedges) a .rows) (stopped, n .halfedges)) (dead, n .halfedges)
+  both v a b t u = cond t (cond u (done [], walk-to H H v a b (n .halfedges) .rows) (stopped, n .halfedges)) (dead, n .halfedges)
 
   -- any refusal: no number is changed
   pub update-refused : (updateVert c n vertex first last .0 ≡ done [] → ⊥) → updateVert c n vertex first last .1 ≡ n .halfedges
@@ -118,7 +107,7 @@ module _ (c : Counts) (n : Net) (vertex first last : ℤ) where
       at-two v a b false u m = refl
 
       go : (x y z : Named) → (updateNamed H (n .halfedges) x y z .0 ≡ done [] → ⊥) → updateNamed H (n .halfedges) x y z .1 ≡ n .halfedges
-      go (at v) (at a) (at b) m = at-two v a b (is-paired (n .halfedges) a && is-paired (n .halfedges) b) (reaches H b (n .halfedges) H a) m
+      go (at v) (at a) (at b) m = at-two v a b (is-paired (n .halfedges) a && is-paired (n .halfedges) b) (reaches H H a b (n .halfedges)) m
       go (at v) (at a) nothing m = refl
       go (at v) nothing z m = refl
       go nothing y z m = refl

@@ -12,7 +12,7 @@ use Rattle.soundness.specs.Check.{checkNet}
 use Rattle.steps.specs.Entries.{past}
 use Rattle.updatevert.specs.declared.UpdateVert.{UpdateVert}
 use Rattle.updatevert.specs.declared.UpdateVert.the-variants as U
-use Rattle.walks.specs.Walk.{reaches, walk}
+use Rattle.walks.specs.Walk.{reaches, walk-to}
 
 abbrev pub updateSaid : UpdateVert → Said
 updateSaid U.Done = done []
@@ -24,7 +24,7 @@ updateSaid U.Stopped = stopped
 
 -- what is said, and the half-edge rows afterwards
 unfoldable pub updateAt : ℕ → ℕ → ℕ → ℕ → List ℤ → Said × List ℤ
-updateAt H v start end rows = cond (reaches H end rows H start) (done [], walk H v end H rows start .rows) (stopped, rows)
+updateAt H v start end rows = cond (reaches H H start end rows) (done [], walk-to H H v start end rows .rows) (stopped, rows)
 
 unfoldable pub updateNamed : ℕ → List ℤ → Named → Named → Named → Said × List ℤ
 updateNamed H rows vertex start end =

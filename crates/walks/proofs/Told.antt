@@ -22,7 +22,7 @@ use Rattle.net.specs.Sound.{InOrder, Live}
 use Rattle.net.proofs.Sound.{live-dec, live-row, next-live, partner-live, partner-inj}
 use Rattle.turning.specs.Fan.{iter, Turning}
 use Rattle.turning.proofs.Orbit.{iter-suc, period, soon}
-use Rattle.walks.specs.Walk.{onward, moved, reaches, walk}
+use Rattle.walks.specs.Walk.{onward, moved, reaches, walk-to}
 use Rattle.walks.specs.Way.{move, Reached, OnWay}
 use Rattle.walks.proofs.Kept.{length-moved, other-moved}
 
@@ -66,7 +66,7 @@ module _ (H N : ℕ) (rows : List ℤ) (thirds : H % 3 ≡ 0) (lent : H ≤ lent
       names-at (pairOf l (next h)) H (move rows h) (same (next h) ∙ n .paired) (live-row H N rows thirds in-order n .pair-in)
 
   -- the walk without a write comes to `to` exactly when so many moves do
-  reach-yes : (to n k here : ℕ) → Live H rows here → k ≤ n → iter (move rows) k here ≡ to → reaches H to rows n here ≡ true
+  reach-yes : (to n k here : ℕ) → Live H rows here → k ≤ n → iter (move rows) k here ≡ to → reaches H n here to rows ≡ true
   unfolding reaches
   reach-yes to zero zero here l b e = eq-eqb here to e
   reach-yes to zero (suc k) here l b e = absurd (omega arith)
@@ -76,7 +76,7 @@ module _ (H N : ℕ) (rows : List ℤ) (thirds : H % 3 ≡ 0) (lent : H ≤ lent
       (λ t. rw t)
       (λ t. rw (t, goes rows (λ g. refl) l) (reach-yes to n k (move rows here) (move-live l) (omega arith) (sym (iter-suc (move rows) k here) ∙ e)))
 
-  pub reach-was : (to n here : ℕ) → Live H rows here → reaches H to rows n here ≡ true → Reached rows here to
+  pub reach-was : (to n here : ℕ) → Live H rows here → reaches H n here to rows ≡ true → Reached rows here to
   unfolding reaches
   reach-was to zero here l e = (0, eqb-true here to e)
   reach-was to (suc n) here l e =
@@ -84,7 +84,7 @@ module _ (H N : ℕ) (rows : List ℤ) (thirds : H % 3 ≡ 0) (lent : H ≤ lent
       (λ t. (0, eqb-true here to t))
       (λ t. let r = reach-was to n (move rows here) (move-live l) (rw (t, goes rows (λ g. refl) l) at e) in (suc (r .0), iter-suc (move rows) (r .0) here ∙ r .1))
 
-  pub reach-soon : (here to : ℕ) → Live H rows here → Reached rows here to → reaches H to rows H here ≡ true
+  pub reach-soon : (here to : ℕ) → Live H rows here → Reached rows here to → reaches H H here to rows ≡ true
   reach-soon here to l r =
       let p = period moving here l in
       let s = soon moving here p (r .0) in
@@ -104,7 +104,7 @@ module _ (H N : ℕ) (rows : List ℤ) (thirds : H % 3 ≡ 0) (lent : H ≤ lent
       first zero b e = m e
       first (suc k) b e = w .before k (omega arith) (sym (iter-suc (move rows) k here) ∙ e)
 
-  way-back : {here to g : ℕ} → (g ≡ here → ⊥) → OnWay rows here to g → OnWay rows (move rows here) to g
+  pub way-back : {here to g : ℕ} → (g ≡ here → ⊥) → OnWay rows here to g → OnWay rows (move rows here) to g
   way-back {here} {to} {g} m w = go (w .moves) (w .there) (w .before)
     where
       go : (k : ℕ) → iter (move rows) k here ≡ g → ((j : ℕ) → j ≤ k → iter (move rows) j here ≡ to → ⊥) → OnWay rows (move rows here) to g
@@ -112,8 +112,8 @@ module _ (H N : ℕ) (rows : List ℤ) (thirds : H % 3 ≡ 0) (lent : H ≤ lent
       go (suc k) e b = record { moves = k; there = sym (iter-suc (move rows) k here) ∙ e; before = λ j c q. b (suc j) (omega arith) (iter-suc (move rows) j here ∙ q) }
 
   told : (v to n k here : ℕ) (l : List ℤ) → Live H rows here → ((g : ℕ) → pairOf l g ≡ pairOf rows g) → length l ≡ length rows → k ≤ n → iter (move rows) k here ≡ to → (g : ℕ) →
-      AsTold v here to l (walk H v to n l here .rows) g
-  unfolding walk
+      AsTold v here to l (walk-to H n v here to l .rows) g
+  unfolding walk-to
   told v to zero k here l a same len b e g =
       let z : k ≡ 0 = omega arith in
       inr (λ w. w .before 0 (omega arith) (ap (λ (i : ℕ). iter (move rows) i here) (sym z) ∙ e), (refl, refl))
@@ -147,8 +147,8 @@ module _ (H N : ℕ) (rows : List ℤ) (thirds : H % 3 ≡ 0) (lent : H ≤ lent
               inr (λ x. w .0 (way-back q x), (w .1 .0 ∙ unmoved-end v here l g q, w .1 .1 ∙ unmoved-start v here l g q))
 
   -- the walk that writes comes to its end exactly when the one that does not
-  pub walk-there : (v to n here : ℕ) (l : List ℤ) → Live H rows here → ((g : ℕ) → pairOf l g ≡ pairOf rows g) → walk H v to n l here .there ≡ reaches H to rows n here
-  unfolding walk reaches
+  pub walk-there : (v to n here : ℕ) (l : List ℤ) → Live H rows here → ((g : ℕ) → pairOf l g ≡ pairOf rows g) → walk-to H n v here to l .there ≡ reaches H n here to rows
+  unfolding walk-to reaches
   walk-there v to zero here l a same = refl
   walk-there v to (suc n) here l a same =
       let pairs : (i : ℕ) → pairOf (moved v here l) i ≡ pairOf rows i = λ i. other-moved v here l pair (λ q. omega arith) (λ q. omega arith) i ∙ same i in
@@ -157,8 +157,8 @@ module _ (H N : ℕ) (rows : List ℤ) (thirds : H % 3 ≡ 0) (lent : H ≤ lent
       (λ t. rw (t, goes (moved v here l) pairs a, goes rows (λ g. refl) a) (walk-there v to n (move rows here) (moved v here l) (move-live a) pairs))
 
   -- where it does, what it leaves of each row
-  pub walk-told : (v from to : ℕ) (l : List ℤ) → Live H rows from → ((g : ℕ) → pairOf l g ≡ pairOf rows g) → length l ≡ length rows → walk H v to H l from .there ≡ true →
-      Reached rows from to × ((g : ℕ) → AsTold v from to l (walk H v to H l from .rows) g)
+  pub walk-told : (v from to : ℕ) (l : List ℤ) → Live H rows from → ((g : ℕ) → pairOf l g ≡ pairOf rows g) → length l ≡ length rows → walk-to H H v from to l .there ≡ true →
+      Reached rows from to × ((g : ℕ) → AsTold v from to l (walk-to H H v from to l .rows) g)
   walk-told v from to l a same len there =
       let r = reach-was to H from a (sym (walk-there v to H from l a same) ∙ there) in
       let p = period moving from a in

@@ -18,10 +18,10 @@ onward H rows h = names (pairOf rows (next h)) H
 unfoldable pub moved : ℕ → ℕ → List ℤ → List ℤ
 moved v h rows = set-column start (next h) (pos v) (set-column end h (pos v) rows)
 
--- whether at most n moves from `here` come to `to`
-unfoldable pub reaches : ℕ → ℕ → List ℤ → ℕ → ℕ → Bool
-reaches H to rows zero here = eqb here to
-reaches H to rows (suc n) here = cond (eqb here to) true (named-or false (onward H rows here) (λ h. reaches H to rows n h))
+-- whether at most n moves from `here` come to `to`, on H half-edges
+unfoldable pub reaches : ℕ → ℕ → ℕ → ℕ → List ℤ → Bool
+reaches H zero here to rows = eqb here to
+reaches H (suc n) here to rows = cond (eqb here to) true (named-or false (onward H rows here) (λ h. reaches H n h to rows))
 
 -- a walk that writes as it goes: whether it came to its end, and the rows
 pub record Walked : Type 0 where
@@ -31,15 +31,16 @@ pub record Walked : Type 0 where
 abbrev pub walked : Bool → List ℤ → Walked
 walked there rows = record { there = there; rows = rows }
 
-unfoldable pub walk : ℕ → ℕ → ℕ → ℕ → List ℤ → ℕ → Walked
-walk H v to zero rows here = walked (eqb here to) rows
-walk H v to (suc n) rows here =
+-- at most n moves, each setting v
+unfoldable pub walk-to : ℕ → ℕ → ℕ → ℕ → ℕ → List ℤ → Walked
+walk-to H zero v here to rows = walked (eqb here to) rows
+walk-to H (suc n) v here to rows =
     cond (eqb here to) (walked true rows)
-    (named-or (walked false (moved v here rows)) (onward H (moved v here rows) here) (λ h. walk H v to n (moved v here rows) h))
+    (named-or (walked false (moved v here rows)) (onward H (moved v here rows) here) (λ h. walk-to H n v h to (moved v here rows)))
 
 -- the step: at most H moves, and the steps stop where that does not come to the end
 abbrev pub after-walk : Middle → Walked → Middle
 after-walk m w = cond (w .there) (with-rows (w .rows) m) (ended Stopped (with-rows (w .rows) m))
 
 unfoldable pub update : ℕ → ℕ → ℕ → ℕ → Middle → Middle
-update H v from to m = cond (refused m) m (after-walk m (walk H v to H (m .halfedges) from))
+update H v from to m = cond (refused m) m (after-walk m (walk-to H H v from to (m .halfedges)))

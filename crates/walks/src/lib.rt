@@ -5,7 +5,7 @@ ghost use mathlib.Core.List.{List};
 ghost use Prim.Native.Nat.{ℕ, _<_, _^_};
 ghost use Rattle.numbers.specs.Numbers.{halfedgeNumber, vertexNumber, halfedgeNamed};
 ghost use Rattle.steps.specs.Steps.{middle, InUse};
-ghost use Rattle.walks.specs.Walk.{onward, moved, reaches, walk, walked, update};
+ghost use Rattle.walks.specs.Walk.{onward, moved, reaches, walk-to, walked, update};
 use numbers::Halfedge;
 use numbers::NamedHalfedge;
 use numbers::Vertex;
@@ -22,7 +22,7 @@ pub fn onward(rows: &[i32], halfedges: usize, h: Halfedge) -> NamedHalfedge
 // Whether the walk from start comes to end, without a write.
 pub fn reaches(rows: &[i32], halfedges: usize, start: Halfedge, end: Halfedge) -> bool
     requires { ⌜ (halfedgeNumber start < halfedges) × InUse halfedges (now rows) ⌝ }
-    ensures { λ r. ⌜ r ≡ reaches halfedges (halfedgeNumber end) (now (rows .entry)) halfedges (halfedgeNumber start) ⌝ }
+    ensures { λ r. ⌜ r ≡ reaches halfedges halfedges (halfedgeNumber start) (halfedgeNumber end) (now (rows .entry)) ⌝ }
 {
     let mut at = start;
     let mut left = halfedges;
@@ -63,7 +63,7 @@ pub fn walk_to(
     end: Halfedge,
 ) -> bool
     requires { ⌜ (halfedgeNumber start < halfedges) × ((vertexNumber v < 2 ^ 31) × InUse halfedges (now rows)) ⌝ }
-    ensures { λ r. ⌜ walked r (now (rows .exit)) ≡ walk halfedges (vertexNumber v) (halfedgeNumber end) halfedges (now (rows .entry)) (halfedgeNumber start) ⌝ }
+    ensures { λ r. ⌜ walked r (now (rows .exit)) ≡ walk-to halfedges halfedges (vertexNumber v) (halfedgeNumber start) (halfedgeNumber end) (now (rows .entry)) ⌝ }
 {
     let mut at = start;
     let mut left = halfedges;

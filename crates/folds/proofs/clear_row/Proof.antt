@@ -1,5 +1,5 @@
 -- `folds::clear_row` meets its contract: one write after the other.
-use Rattle.folds.specs.Folds.{cleared}
+use Rattle.folds.specs.Folds.{gone-row}
 use borrow.Author.Needs.{needs}
 use Rattle.folds.proofs.clear_row.Statement.{statement}
 use Rattle.folds.proofs.clear_row.Tie as tie
@@ -14,7 +14,7 @@ same-length : tie.Need-same-length
 same-length c = search needs
 
 returns : tie.Need-returns
-unfolding cleared
+unfolding gone-row
 returns c = rw (c .before .empty-prop .ensures, c .before .before .before .before .empty .ensures)
 
 pub clear-row-spec : {M : Type 1} → statement M

@@ -68,9 +68,18 @@ same-length-3 c = search needs
 returns-2 : tie.Need-returns-2
 unfolding fold-at
 returns-2 c =
-    let t = rw (c .before .before .before .before .before .before .before .same-end .ensures, c .before .before .before .before .before .before .before .before .before .before .before .is-pair .ensures, c .before .before .before .before .before .before .before .before .before .is-pair2 .ensures, c .before .before .before .before .before .before .before .before .before .before .before .before .before .next4 .ensures, c .before .before .before .before .before .before .before .before .before .before .before .before .before .before .next3 .ensures, c .before .before .before .before .before .before .before .before .before .before .before .before .before .before .before .next2 .ensures, c .before .before .before .before .before .before .before .before .before .before .before .before .before .before .before .before .next .ensures) at (not-false (c .before .before .before .before .before .before .before .same-end .result && (c .before .before .before .before .before .before .before .before .before .before .before .is-pair .result || c .before .before .before .before .before .before .before .before .before .is-pair2 .result)) (c .before .before .before .before .before .before .if1 .left)) in
-    let r = rw (c .before .before .before .before .before .before .before .before .before .before .before .is-pair .ensures, c .before .before .before .before .before .before .before .before .before .is-pair2 .ensures, c .before .before .before .before .before .before .before .before .before .before .before .before .before .next4 .ensures, c .before .before .before .before .before .before .before .before .before .before .before .before .before .before .next3 .ensures, c .before .before .before .before .before .before .before .before .before .before .before .before .before .before .before .next2 .ensures, c .before .before .before .before .before .before .before .before .before .before .before .before .before .before .before .before .next .ensures) at (c .before .before .before .take-out .ensures .0) in
-    (rw t r, c .before .before .before .take-out .ensures .1)
+    let c1 = c .before .before .before in
+    let c2 = c1 .before .before .before in
+    let c3 = c2 .before in
+    let c4 = c3 .before .before in
+    let c5 = c4 .before .before in
+    let c6 = c5 .before .before in
+    let c7 = c6 .before in
+    let c8 = c7 .before in
+    let c9 = c8 .before in
+    let t = rw (c3 .same-end .ensures, c5 .is-pair .ensures, c4 .is-pair2 .ensures, c6 .next4 .ensures, c7 .next3 .ensures, c8 .next2 .ensures, c9 .next .ensures) at (not-false (c3 .same-end .result && (c5 .is-pair .result || c4 .is-pair2 .result)) (c2 .if1 .left)) in
+    let r = rw (c5 .is-pair .ensures, c4 .is-pair2 .ensures, c6 .next4 .ensures, c7 .next3 .ensures, c8 .next2 .ensures, c9 .next .ensures) at (c1 .take-out .ensures .0) in
+    (rw t r, c1 .take-out .ensures .1)
 
 pub fold-at-spec : {M : Type 1} → statement M
 fold-at-spec =

@@ -16,18 +16,15 @@ returns : tie.Need-returns
 unfolding fold
 returns c = (rw (← c .before .refused .ensures, c .if1 .taken), refl)
 
-number-requires : tie.Need-number-requires
-number-requires c κs = search needs
-
-paired-requires : tie.Need-paired-requires
-paired-requires c κs = search needs
+is-paired-requires : tie.Need-is-paired-requires
+is-paired-requires c κs = search needs
 
 next-requires : tie.Need-next-requires
 next-requires c κs = search needs
 
-unpaired-requires : tie.Need-unpaired-requires
-unpaired-requires c κs =
-    let b = second-in (c .before .before .before .before .before .before .before .before .args .e .0) (c .before .before .before .before .before .before .before .before .args .halfedges) (c .before .before .before .before .before .before .before .before .pre .0) (c .before .before .before .before .before .before .before .before .pre .1 .0 .0) in
+is-unpaired-requires : tie.Need-is-unpaired-requires
+is-unpaired-requires c κs =
+    let b = second-in (c .before .before .before .before .before .before .before .args .e .0) (c .before .before .before .before .before .before .before .args .halfedges) (c .before .before .before .before .before .before .before .pre .0) (c .before .before .before .before .before .before .before .pre .1 .0 .0) in
     rw (c .next .ensures) (omega arith)
 
 same-length : tie.Need-same-length
@@ -36,8 +33,8 @@ same-length c = search needs
 returns-2 : tie.Need-returns-2
 unfolding fold
 returns-2 c =
-    let t = rw (c .before .before .before .before .paired .ensures, c .before .unpaired .ensures, c .before .before .before .before .before .number .ensures, c .before .before .next .ensures) at (c .if2 .taken) in
-    (rw (← c .before .before .before .before .before .before .before .before .refused .ensures, c .before .before .before .before .before .before .before .if1 .left, t), refl)
+    let t = rw (c .before .before .before .before .is-paired .ensures, c .before .is-unpaired .ensures, c .before .before .next .ensures) at (c .if2 .taken) in
+    (rw (← c .before .before .before .before .before .before .before .refused .ensures, c .before .before .before .before .before .before .if1 .left, t), refl)
 
 pair-of-requires : tie.Need-pair-of-requires
 pair-of-requires c κs = search needs
@@ -57,14 +54,14 @@ same-length-2 c = search needs
 returns-3 : tie.Need-returns-3
 unfolding fold
 returns-3 c =
-    let t = rw (c .before .before .before .before .before .before .before .before .before .paired .ensures, c .before .before .before .before .before .before .unpaired .ensures, c .before .before .before .before .before .before .before .before .before .before .number .ensures, c .before .before .before .before .before .before .before .next .ensures) at (c .before .before .before .before .before .if2 .left) in
-    (rw (← c .before .before .before .before .before .before .before .before .before .before .before .before .before .refused .ensures, c .before .before .before .before .before .before .before .before .before .before .before .before .if1 .left, t, ← (rw (c .before .enum-told .given .1) at (c .before .before .before .pair-of .ensures)), c .stopped .ensures), rw (c .stopped .ensures) refl)
+    let t = rw (c .before .before .before .before .before .before .before .before .before .is-paired .ensures, c .before .before .before .before .before .before .is-unpaired .ensures, c .before .before .before .before .before .before .before .next .ensures) at (c .before .before .before .before .before .if2 .left) in
+    (rw (← c .before .before .before .before .before .before .before .before .before .before .before .before .refused .ensures, c .before .before .before .before .before .before .before .before .before .before .before .if1 .left, t, ← (rw (c .before .enum-told .given .1) at (c .before .before .before .pair-of .ensures)), c .stopped .ensures), rw (c .stopped .ensures) refl)
 
 fold-at-requires : tie.Need-fold-at-requires
 fold-at-requires c κs =
-    let s = c .before .before .before .before .before .before .before .before .before .before .before .before .before .before .before .before .before .args in
+    let s = c .before .before .before .before .before .before .before .before .before .before .before .before .before .before .before .before .args in
     let f = names-below (pairOf (s .rows .now) (s .e .0)) (s .halfedges) (sym (rw (c .before .before .before .f .given .1) at (c .before .before .before .before .before .pair-of .ensures))) in
-    ((c .before .before .before .before .before .before .before .before .before .before .before .before .before .before .before .before .before .pre .0, f), c .before .before .before .before .before .before .before .before .before .before .before .before .before .before .before .before .before .pre .1)
+    ((c .before .before .before .before .before .before .before .before .before .before .before .before .before .before .before .before .pre .0, f), c .before .before .before .before .before .before .before .before .before .before .before .before .before .before .before .before .pre .1)
 
 same-length-3 : tie.Need-same-length-3
 same-length-3 c = search needs
@@ -75,8 +72,8 @@ same-length-4 c = search needs
 returns-4 : tie.Need-returns-4
 unfolding fold
 returns-4 c =
-    let t = rw (c .before .before .before .before .before .before .before .before .before .before .before .before .before .before .before .paired .ensures, c .before .before .before .before .before .before .before .before .before .before .before .before .unpaired .ensures, c .before .before .before .before .before .before .before .before .before .before .before .before .before .before .before .before .number .ensures, c .before .before .before .before .before .before .before .before .before .before .before .before .before .next .ensures) at (c .before .before .before .before .before .before .before .before .before .before .before .if2 .left) in
-    (rw (← c .before .before .before .before .before .before .before .before .before .before .before .before .before .before .before .before .before .before .before .refused .ensures, c .before .before .before .before .before .before .before .before .before .before .before .before .before .before .before .before .before .before .if1 .left, t, ← (rw (c .before .before .before .before .before .before .before .f .given .1) at (c .before .before .before .before .before .before .before .before .before .pair-of .ensures))) (c .before .before .before .fold-at .ensures .0), c .before .before .before .fold-at .ensures .1)
+    let t = rw (c .before .before .before .before .before .before .before .before .before .before .before .before .before .before .before .is-paired .ensures, c .before .before .before .before .before .before .before .before .before .before .before .before .is-unpaired .ensures, c .before .before .before .before .before .before .before .before .before .before .before .before .before .next .ensures) at (c .before .before .before .before .before .before .before .before .before .before .before .if2 .left) in
+    (rw (← c .before .before .before .before .before .before .before .before .before .before .before .before .before .before .before .before .before .before .refused .ensures, c .before .before .before .before .before .before .before .before .before .before .before .before .before .before .before .before .before .if1 .left, t, ← (rw (c .before .before .before .before .before .before .before .f .given .1) at (c .before .before .before .before .before .before .before .before .before .pair-of .ensures))) (c .before .before .before .fold-at .ensures .0), c .before .before .before .fold-at .ensures .1)
 
 pub fold-step-spec : {M : Type 1} → statement M
 fold-step-spec =
@@ -84,10 +81,9 @@ fold-step-spec =
     (tie.spec
     refused-requires
     returns
-    number-requires
-    paired-requires
+    is-paired-requires
     next-requires
-    unpaired-requires
+    is-unpaired-requires
     same-length
     returns-2
     pair-of-requires

@@ -1,5 +1,5 @@
 -- `folds::join_rows` meets its contract: one pairing after the other.
-use Rattle.folds.specs.Folds.{joined}
+use Rattle.folds.specs.Folds.{outer-paired}
 use borrow.Author.Needs.{needs}
 use Rattle.folds.proofs.join_rows.Statement.{statement}
 use Rattle.folds.proofs.join_rows.Tie as tie
@@ -14,7 +14,7 @@ same-length : tie.Need-same-length
 same-length c = search needs
 
 returns : tie.Need-returns
-unfolding joined
+unfolding outer-paired
 returns c = rw (c .before .pair-rows2 .ensures, c .before .before .before .before .pair-rows .ensures)
 
 pub join-rows-spec : {M : Type 1} → statement M

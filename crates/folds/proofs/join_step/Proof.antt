@@ -92,7 +92,17 @@ same-length-4 c = search needs
 returns-5 : tie.Need-returns-5
 unfolding join
 returns-5 c =
-    (λ p. rw (← c .before .before .before .before .before .before .before .before .before .before .before .before .before .before .before .before .before .before .before .before .before .refused .ensures, c .before .before .before .before .before .before .before .before .before .before .before .before .before .before .before .before .before .before .before .before .if1 .left, ← (rw (c .before .before .before .before .before .before .before .before .before .before .before .before .before .before .before .before .a .given .1) at (c .before .before .before .before .before .before .before .before .before .before .before .before .before .before .before .before .before .before .pair-of .ensures)), ← (rw (c .before .before .before .before .before .before .before .before .before .before .before .b .given .1) at (c .before .before .before .before .before .before .before .before .before .before .before .before .before .pair-of2 .ensures)), ← (rw (c .before .before .before .before .before .before .c .given .1) at (c .before .before .before .before .before .before .before .before .pair-of3 .ensures)), ← (rw (c .before .enum-told4 .given .1) at (c .before .before .before .pair-of4 .ensures)), c .stopped4 .ensures), rw (c .stopped4 .ensures) refl)
+    let c1 = c .before in
+    let c2 = c1 .before .before in
+    let c3 = c2 .before .before .before in
+    let c4 = c3 .before .before in
+    let c5 = c4 .before .before .before in
+    let c6 = c5 .before .before in
+    let c7 = c6 .before .before .before in
+    let c8 = c7 .before .before in
+    let c9 = c8 .before .before in
+    let c10 = c9 .before in
+    (λ p. rw (← c10 .refused .ensures, c9 .if1 .left, ← (rw (c7 .a .given .1) at (c8 .pair-of .ensures)), ← (rw (c5 .b .given .1) at (c6 .pair-of2 .ensures)), ← (rw (c3 .c .given .1) at (c4 .pair-of3 .ensures)), ← (rw (c1 .enum-told4 .given .1) at (c2 .pair-of4 .ensures)), c .stopped4 .ensures), rw (c .stopped4 .ensures) refl)
 
 join-rows-requires : tie.Need-join-rows-requires
 join-rows-requires c κs =
@@ -109,7 +119,18 @@ same-length-5 c = search needs
 returns-6 : tie.Need-returns-6
 unfolding join
 returns-6 c =
-    (λ p. rw (← c .before .before .before .before .before .before .before .before .before .before .before .before .before .before .before .before .before .before .before .before .before .before .before .before .refused .ensures, c .before .before .before .before .before .before .before .before .before .before .before .before .before .before .before .before .before .before .before .before .before .before .before .if1 .left, ← (rw (c .before .before .before .before .before .before .before .before .before .before .before .before .before .before .before .before .before .before .before .a .given .1) at (c .before .before .before .before .before .before .before .before .before .before .before .before .before .before .before .before .before .before .before .before .before .pair-of .ensures)), ← (rw (c .before .before .before .before .before .before .before .before .before .before .before .before .before .before .b .given .1) at (c .before .before .before .before .before .before .before .before .before .before .before .before .before .before .before .before .pair-of2 .ensures)), ← (rw (c .before .before .before .before .before .before .before .before .before .c .given .1) at (c .before .before .before .before .before .before .before .before .before .before .before .pair-of3 .ensures)), ← (rw (c .before .before .before .before .d .given .1) at (c .before .before .before .before .before .before .pair-of4 .ensures)), c .before .join-rows .ensures), refl)
+    let c1 = c .before in
+    let c2 = c1 .before .before .before in
+    let c3 = c2 .before .before in
+    let c4 = c3 .before .before .before in
+    let c5 = c4 .before .before in
+    let c6 = c5 .before .before .before in
+    let c7 = c6 .before .before in
+    let c8 = c7 .before .before .before in
+    let c9 = c8 .before .before in
+    let c10 = c9 .before .before in
+    let c11 = c10 .before in
+    (λ p. rw (← c11 .refused .ensures, c10 .if1 .left, ← (rw (c8 .a .given .1) at (c9 .pair-of .ensures)), ← (rw (c6 .b .given .1) at (c7 .pair-of2 .ensures)), ← (rw (c4 .c .given .1) at (c5 .pair-of3 .ensures)), ← (rw (c2 .d .given .1) at (c3 .pair-of4 .ensures)), c1 .join-rows .ensures), refl)
 
 pub join-step-spec : {M : Type 1} → statement M
 join-step-spec =

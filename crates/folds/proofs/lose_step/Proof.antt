@@ -1,6 +1,8 @@
 -- `folds::lose_step` meets its contract: each return is by the tests met so far.
-use mathlib.Core.Path.{refl}
-use borrow.Author.Tests.{le-leb, lt-leb}
+use mathlib.Core.Path.{refl, sym}
+use native.Mathlib.Omega.{arith}
+use Rattle.numbers.proofs.Names.{names-below}
+use Rattle.rows.specs.Halfedges.{startOf}
 use Rattle.folds.specs.Folds.{lose}
 use borrow.Author.Needs.{needs}
 use Rattle.folds.proofs.lose_step.Statement.{statement}
@@ -22,31 +24,27 @@ enum-known-v c = search needs
 enum-told : tie.Need-enum-told
 enum-told c = search needs
 
+beyond-requires : tie.Need-beyond-requires
+beyond-requires c κs = search needs
+
 returns-2 : tie.Need-returns-2
 unfolding lose
-returns-2 c = (rw (← c .before .before .before .before .refused .ensures, c .before .before .before .if1 .left, ← (rw (c .enum-told .given .1) at (c .before .before .start-of .ensures))), refl)
-
-number-requires : tie.Need-number-requires
-number-requires c κs = search needs
-
-stopped-requires : tie.Need-stopped-requires
-stopped-requires c κs = search needs
-
-returns-3 : tie.Need-returns-3
-unfolding lose
-returns-3 c =
-    (rw (← c .before .before .before .before .before .before .before .before .refused .ensures, c .before .before .before .before .before .before .before .if1 .left, ← (rw (c .before .before .before .before .v .given .1) at (c .before .before .before .before .before .before .start-of .ensures)), ← c .before .before .number .ensures, le-leb _ _ (c .before .if2 .taken), c .stopped .ensures), rw (c .stopped .ensures) refl)
+returns-2 c =
+    (rw (← c .before .before .before .before .before .refused .ensures, c .before .before .before .before .if1 .left, ← (rw (c .before .enum-told .given .1) at (c .before .before .before .start-of .ensures))) (c .beyond .ensures .0 (c .before .before .before .before .before .before .before .args .positions .now)), c .beyond .ensures .1)
 
 set-position-requires : tie.Need-set-position-requires
-set-position-requires c κs = search needs
+set-position-requires c κs =
+    let s = c .before .before .before .before .before .before .before .before .args in
+    let v = names-below (startOf (s .rows .now) (s .h .0)) (s .run .vertices) (sym (rw (c .before .before .v .given .1) at (c .before .before .before .before .start-of .ensures))) in
+    omega (arith, v, c .before .before .before .before .before .before .before .before .pre .1 .0)
 
 same-length : tie.Need-same-length
 same-length c = search needs
 
-returns-4 : tie.Need-returns-4
+returns-3 : tie.Need-returns-3
 unfolding lose
-returns-4 c =
-    (rw (← c .before .before .before .before .before .before .before .before .before .before .before .refused .ensures, c .before .before .before .before .before .before .before .before .before .before .if1 .left, ← (rw (c .before .before .before .before .before .before .before .v .given .1) at (c .before .before .before .before .before .before .before .before .before .start-of .ensures)), c .before .before .set-position .ensures, ← c .before .before .before .before .before .number .ensures, lt-leb _ _ (c .before .before .before .before .if2 .left)), refl)
+returns-3 c =
+    (rw (← c .before .before .before .before .before .before .before .before .before .refused .ensures, c .before .before .before .before .before .before .before .before .if1 .left, ← (rw (c .before .before .before .before .before .v .given .1) at (c .before .before .before .before .before .before .before .start-of .ensures)), c .before .before .set-position .ensures), refl)
 
 pub lose-step-spec : {M : Type 1} → statement M
 lose-step-spec =
@@ -57,10 +55,8 @@ lose-step-spec =
     start-of-requires
     enum-known-v
     enum-told
+    beyond-requires
     returns-2
-    number-requires
-    stopped-requires
-    returns-3
     set-position-requires
     same-length
-    returns-4)
+    returns-3)

@@ -91,8 +91,16 @@ same-length-14 c = search needs
 returns-4 : tie.Need-returns-4
 unfolding formLoop
 returns-4 c =
-    rw (← c .before .before .before .before .before .before .before .before .before .before .before .before .before .before .before .before .before .before .before .before .shaped .ensures, not-false (c .before .before .before .before .before .before .before .before .before .before .before .before .before .before .before .before .before .before .before .before .shaped .result) (c .before .before .before .before .before .before .before .before .before .before .before .before .before .before .before .before .before .before .before .if1 .left), ← c .before .before .before .before .before .before .before .before .before .before .before .before .before .before .before .before .spare-fits .ensures, not-false (c .before .before .before .before .before .before .before .before .before .before .before .before .before .before .before .before .spare-fits .result) (c .before .before .before .before .before .before .before .before .before .before .before .before .before .before .before .if2 .left), ← c .before .before .before .before .before .before .before .before .before .before .before .before .before .first-out .ensures, c .before .before .before .before .before .before .before .before .before .before .before .enum-told .given .1)
-    (rw (toZ-ofZ (c .before .before .before .before .before .before .before .before .before .before .before .before .before .before .before .before .before .before .before .before .before .before .before .before .before .before .before .fits .first), toZ-ofZ (c .before .before .before .before .before .before .before .before .before .before .before .before .before .before .before .before .before .before .before .before .before .before .before .before .before .before .before .fits .second)) at (c .before .before .before .before .before .before .form-named .ensures))
+    let c1 = c .before .before .before .before .before .before in
+    let c2 = c1 .before .before .before .before .before in
+    let c3 = c2 .before .before in
+    let c4 = c3 .before .before in
+    let c5 = c4 .before in
+    let c6 = c5 .before .before .before in
+    let c7 = c6 .before in
+    let c8 = c7 .before .before .before .before .before .before .before in
+    rw (← c7 .shaped .ensures, not-false (c7 .shaped .result) (c6 .if1 .left), ← c5 .spare-fits .ensures, not-false (c5 .spare-fits .result) (c4 .if2 .left), ← c3 .first-out .ensures, c2 .enum-told .given .1)
+    (rw (toZ-ofZ (c8 .fits .first), toZ-ofZ (c8 .fits .second)) at (c1 .form-named .ensures))
 
 pub form-loop-spec : {M : Type 1} → statement M
 form-loop-spec =

@@ -19,11 +19,11 @@ position-of-requires c κs = search needs
 append-position-requires : tie.Need-append-position-requires
 append-position-requires c κs = search needs
 
-add-begun : tie.Need-add-begun
-add-begun c = search needs
+add-with-vertices : tie.Need-add-with-vertices
+add-with-vertices c = search needs
 
-begun-requires : tie.Need-begun-requires
-begun-requires c κs = search needs
+with-vertices-requires : tie.Need-with-vertices-requires
+with-vertices-requires c κs = search needs
 
 same-length : tie.Need-same-length
 same-length c = search needs
@@ -31,7 +31,7 @@ same-length c = search needs
 returns-2 : tie.Need-returns-2
 unfolding append
 returns-2 c =
-    (λ h. rw (lt-leb _ _ (c .before .before .before .before .before .before .before .if1 .left), c .before .before .before .append-position .ensures .0, c .before .before .before .before .before .position-of .ensures, c .begun .ensures), rw (c .begun .ensures) (omega arith))
+    (λ h. rw (lt-leb _ _ (c .before .before .before .before .before .before .before .if1 .left), c .before .before .before .append-position .ensures .0, c .before .before .before .before .before .position-of .ensures, c .with-vertices .ensures), rw (c .with-vertices .ensures) (omega arith))
 
 pub append-copy-spec : {M : Type 1} → statement M
 append-copy-spec =
@@ -41,7 +41,7 @@ append-copy-spec =
     returns
     position-of-requires
     append-position-requires
-    add-begun
-    begun-requires
+    add-with-vertices
+    with-vertices-requires
     same-length
     returns-2)

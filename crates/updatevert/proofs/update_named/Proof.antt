@@ -51,23 +51,17 @@ unfolding updateNamed
 returns-3 c =
     rw (← (rw (toZ-ofZ (c .before .before .before .before .before .before .before .before .before .before .before .fits .vertex), c .before .before .before .before .before .before .before .before .v .given .1) at (c .before .before .before .before .before .before .before .before .before .before .vertex-given .ensures)), ← (rw (toZ-ofZ (c .before .before .before .before .before .before .before .before .before .before .before .fits .start), c .before .before .before .before .a .given .1) at (c .before .before .before .before .before .before .halfedge-given .ensures)), ← (rw (toZ-ofZ (c .before .before .before .before .before .before .before .before .before .before .before .fits .end), c .enum-told3 .given .1) at (c .before .before .halfedge-given2 .ensures)))
 
-number-requires : tie.Need-number-requires
-number-requires c κs = search needs
+is-paired-requires : tie.Need-is-paired-requires
+is-paired-requires c κs =
+    let s = c .before .before .before .before .before .before .before .before .before .before .before .before .before .args in
+    let b = names-below (s .start) (s .halfedges) (sym (rw (toZ-ofZ (c .before .before .before .before .before .before .before .before .before .before .before .before .before .fits .start), c .before .before .before .before .before .before .a .given .1) at (c .before .before .before .before .before .before .before .before .halfedge-given .ensures))) in
+    omega (arith, b, c .before .before .before .before .before .before .before .before .before .before .before .before .before .pre .1 .1 .0)
 
-paired-requires : tie.Need-paired-requires
-paired-requires c κs =
-    let s = c .before .before .before .before .before .before .before .before .before .before .before .before .before .before .args in
-    let b = names-below (s .start) (s .halfedges) (sym (rw (toZ-ofZ (c .before .before .before .before .before .before .before .before .before .before .before .before .before .before .fits .start), c .before .before .before .before .before .before .before .a .given .1) at (c .before .before .before .before .before .before .before .before .before .halfedge-given .ensures))) in
-    rw (c .number .ensures) (omega (arith, b, c .before .before .before .before .before .before .before .before .before .before .before .before .before .before .pre .1 .1 .0))
-
-number-requires-2 : tie.Need-number-requires-2
-number-requires-2 c κs = search needs
-
-paired-requires-2 : tie.Need-paired-requires-2
-paired-requires-2 c κs =
-    let s = c .before .before .before .before .before .before .before .before .before .before .before .before .before .before .before .before .before .args in
-    let b = names-below (s .end) (s .halfedges) (sym (rw (toZ-ofZ (c .before .before .before .before .before .before .before .before .before .before .before .before .before .before .before .before .before .fits .end), c .before .before .before .before .before .before .b .given .1) at (c .before .before .before .before .before .before .before .before .halfedge-given2 .ensures))) in
-    rw (c .number2 .ensures) (omega (arith, b, c .before .before .before .before .before .before .before .before .before .before .before .before .before .before .before .before .before .pre .1 .1 .0))
+is-paired-requires-2 : tie.Need-is-paired-requires-2
+is-paired-requires-2 c κs =
+    let s = c .before .before .before .before .before .before .before .before .before .before .before .before .before .before .before .args in
+    let b = names-below (s .end) (s .halfedges) (sym (rw (toZ-ofZ (c .before .before .before .before .before .before .before .before .before .before .before .before .before .before .before .fits .end), c .before .before .before .before .b .given .1) at (c .before .before .before .before .before .before .halfedge-given2 .ensures))) in
+    omega (arith, b, c .before .before .before .before .before .before .before .before .before .before .before .before .before .before .before .pre .1 .1 .0)
 
 same-length : tie.Need-same-length
 same-length c = search needs
@@ -75,15 +69,24 @@ same-length c = search needs
 returns-4 : tie.Need-returns-4
 unfolding updateNamed
 returns-4 c =
-    let t = rw (c .before .before .before .before .paired .ensures, c .before .paired2 .ensures, c .before .before .before .before .before .number .ensures, c .before .before .number2 .ensures) at (not-true (c .before .before .before .before .paired .result && c .before .paired2 .result) (c .if1 .taken)) in
-    rw (← (rw (toZ-ofZ (c .before .before .before .before .before .before .before .before .before .before .before .before .before .before .before .before .before .before .before .fits .vertex), c .before .before .before .before .before .before .before .before .before .before .before .before .before .before .before .before .v .given .1) at (c .before .before .before .before .before .before .before .before .before .before .before .before .before .before .before .before .before .before .vertex-given .ensures)), ← (rw (toZ-ofZ (c .before .before .before .before .before .before .before .before .before .before .before .before .before .before .before .before .before .before .before .fits .start), c .before .before .before .before .before .before .before .before .before .before .before .before .a .given .1) at (c .before .before .before .before .before .before .before .before .before .before .before .before .before .before .halfedge-given .ensures)), ← (rw (toZ-ofZ (c .before .before .before .before .before .before .before .before .before .before .before .before .before .before .before .before .before .before .before .fits .end), c .before .before .before .before .before .before .before .before .b .given .1) at (c .before .before .before .before .before .before .before .before .before .before .halfedge-given2 .ensures)), t)
+    let c1 = c .before in
+    let c2 = c1 .before .before in
+    let c3 = c2 .before .before .before in
+    let c4 = c3 .before .before in
+    let c5 = c4 .before .before in
+    let c6 = c5 .before .before in
+    let c7 = c6 .before .before in
+    let c8 = c7 .before .before in
+    let c9 = c8 .before in
+    let t = rw (c2 .is-paired .ensures, c1 .is-paired2 .ensures) at (not-true (c2 .is-paired .result && c1 .is-paired2 .result) (c .if1 .taken)) in
+    rw (← (rw (toZ-ofZ (c9 .fits .vertex), c7 .v .given .1) at (c8 .vertex-given .ensures)), ← (rw (toZ-ofZ (c9 .fits .start), c5 .a .given .1) at (c6 .halfedge-given .ensures)), ← (rw (toZ-ofZ (c9 .fits .end), c3 .b .given .1) at (c4 .halfedge-given2 .ensures)), t)
 
 update-at-requires : tie.Need-update-at-requires
 update-at-requires c κs =
-    let s = c .before .before .before .before .before .before .before .before .before .before .before .before .before .before .before .before .before .before .before .before .args in
-    let a = names-below (s .start) (s .halfedges) (sym (rw (toZ-ofZ (c .before .before .before .before .before .before .before .before .before .before .before .before .before .before .before .before .before .before .before .before .fits .start), c .before .before .before .before .before .before .before .before .before .before .before .before .before .a .given .1) at (c .before .before .before .before .before .before .before .before .before .before .before .before .before .before .before .halfedge-given .ensures))) in
-    let v = names-below (s .vertex) (s .vertices) (sym (rw (toZ-ofZ (c .before .before .before .before .before .before .before .before .before .before .before .before .before .before .before .before .before .before .before .before .fits .vertex), c .before .before .before .before .before .before .before .before .before .before .before .before .before .before .before .before .before .v .given .1) at (c .before .before .before .before .before .before .before .before .before .before .before .before .before .before .before .before .before .before .before .vertex-given .ensures))) in
-    omega (arith, a, v, c .before .before .before .before .before .before .before .before .before .before .before .before .before .before .before .before .before .before .before .before .pre .0, c .before .before .before .before .before .before .before .before .before .before .before .before .before .before .before .before .before .before .before .before .pre .1 .0, c .before .before .before .before .before .before .before .before .before .before .before .before .before .before .before .before .before .before .before .before .pre .1 .1 .0, c .before .before .before .before .before .before .before .before .before .before .before .before .before .before .before .before .before .before .before .before .pre .1 .1 .1)
+    let s = c .before .before .before .before .before .before .before .before .before .before .before .before .before .before .before .before .before .before .args in
+    let a = names-below (s .start) (s .halfedges) (sym (rw (toZ-ofZ (c .before .before .before .before .before .before .before .before .before .before .before .before .before .before .before .before .before .before .fits .start), c .before .before .before .before .before .before .before .before .before .before .before .a .given .1) at (c .before .before .before .before .before .before .before .before .before .before .before .before .before .halfedge-given .ensures))) in
+    let v = names-below (s .vertex) (s .vertices) (sym (rw (toZ-ofZ (c .before .before .before .before .before .before .before .before .before .before .before .before .before .before .before .before .before .before .fits .vertex), c .before .before .before .before .before .before .before .before .before .before .before .before .before .before .before .v .given .1) at (c .before .before .before .before .before .before .before .before .before .before .before .before .before .before .before .before .before .vertex-given .ensures))) in
+    omega (arith, a, v, c .before .before .before .before .before .before .before .before .before .before .before .before .before .before .before .before .before .before .pre .0, c .before .before .before .before .before .before .before .before .before .before .before .before .before .before .before .before .before .before .pre .1 .0, c .before .before .before .before .before .before .before .before .before .before .before .before .before .before .before .before .before .before .pre .1 .1 .0, c .before .before .before .before .before .before .before .before .before .before .before .before .before .before .before .before .before .before .pre .1 .1 .1)
 
 same-length-2 : tie.Need-same-length-2
 same-length-2 c = search needs
@@ -91,8 +94,19 @@ same-length-2 c = search needs
 returns-5 : tie.Need-returns-5
 unfolding updateNamed
 returns-5 c =
-    let t = rw (c .before .before .before .before .before .before .before .paired .ensures, c .before .before .before .before .paired2 .ensures, c .before .before .before .before .before .before .before .before .number .ensures, c .before .before .before .before .before .number2 .ensures) at (not-false (c .before .before .before .before .before .before .before .paired .result && c .before .before .before .before .paired2 .result) (c .before .before .before .if1 .left)) in
-    rw (← (rw (toZ-ofZ (c .before .before .before .before .before .before .before .before .before .before .before .before .before .before .before .before .before .before .before .before .before .before .fits .vertex), c .before .before .before .before .before .before .before .before .before .before .before .before .before .before .before .before .before .before .before .v .given .1) at (c .before .before .before .before .before .before .before .before .before .before .before .before .before .before .before .before .before .before .before .before .before .vertex-given .ensures)), ← (rw (toZ-ofZ (c .before .before .before .before .before .before .before .before .before .before .before .before .before .before .before .before .before .before .before .before .before .before .fits .start), c .before .before .before .before .before .before .before .before .before .before .before .before .before .before .before .a .given .1) at (c .before .before .before .before .before .before .before .before .before .before .before .before .before .before .before .before .before .halfedge-given .ensures)), ← (rw (toZ-ofZ (c .before .before .before .before .before .before .before .before .before .before .before .before .before .before .before .before .before .before .before .before .before .before .fits .end), c .before .before .before .before .before .before .before .before .before .before .before .b .given .1) at (c .before .before .before .before .before .before .before .before .before .before .before .before .before .halfedge-given2 .ensures)), t) (c .before .update-at .ensures)
+    let c1 = c .before in
+    let c2 = c1 .before .before in
+    let c3 = c2 .before in
+    let c4 = c3 .before .before in
+    let c5 = c4 .before .before .before in
+    let c6 = c5 .before .before in
+    let c7 = c6 .before .before in
+    let c8 = c7 .before .before in
+    let c9 = c8 .before .before in
+    let c10 = c9 .before .before in
+    let c11 = c10 .before in
+    let t = rw (c4 .is-paired .ensures, c3 .is-paired2 .ensures) at (not-false (c4 .is-paired .result && c3 .is-paired2 .result) (c2 .if1 .left)) in
+    rw (← (rw (toZ-ofZ (c11 .fits .vertex), c9 .v .given .1) at (c10 .vertex-given .ensures)), ← (rw (toZ-ofZ (c11 .fits .start), c7 .a .given .1) at (c8 .halfedge-given .ensures)), ← (rw (toZ-ofZ (c11 .fits .end), c5 .b .given .1) at (c6 .halfedge-given2 .ensures)), t) (c1 .update-at .ensures)
 
 pub update-named-spec : {M : Type 1} → statement M
 update-named-spec =
@@ -110,10 +124,8 @@ update-named-spec =
     enum-known-b
     enum-told-3
     returns-3
-    number-requires
-    paired-requires
-    number-requires-2
-    paired-requires-2
+    is-paired-requires
+    is-paired-requires-2
     same-length
     returns-4
     update-at-requires

@@ -12,7 +12,7 @@ use Rattle.walks.proofs.reaches.Tie as tie
 abbrev Inv-loop : tie.InvT-loop
 Inv-loop rows halfedges end at₀ left₀ at left =
     (halfedgeNumber at < halfedges)
-    × (reaches halfedges (halfedgeNumber end) rows left (halfedgeNumber at) ≡ reaches halfedges (halfedgeNumber end) rows halfedges (halfedgeNumber at₀))
+    × (reaches halfedges left (halfedgeNumber at) (halfedgeNumber end) rows ≡ reaches halfedges halfedges (halfedgeNumber at₀) (halfedgeNumber end) rows)
 
 abbrev μ-loop : tie.MeasureT-loop
 μ-loop rows halfedges end at₀ left₀ at left = left

@@ -4,7 +4,7 @@ use Prim.Native.Nat.{_<_}
 use native.Mathlib.Omega.{arith}
 use lib.ListN.{length}
 use Rattle.numbers.specs.Numbers.{halfedgeNumber, vertexNumber}
-use Rattle.walks.specs.Walk.{walk}
+use Rattle.walks.specs.Walk.{walk-to}
 use Rattle.walks.proofs.Turns.{onward-below, walk-hit, walk-off, walk-on, walk-last}
 use borrow.Author.Needs.{needs}
 use Rattle.walks.proofs.walk_to.Statement.{statement}
@@ -13,7 +13,7 @@ use Rattle.walks.proofs.walk_to.Tie as tie
 abbrev Inv-loop : tie.InvT-loop
 Inv-loop rows₀ halfedges v end at₀ left₀ rows at left =
     (halfedgeNumber at < halfedges) × (length rows ≡ length rows₀)
-    × (walk halfedges (vertexNumber v) (halfedgeNumber end) left rows (halfedgeNumber at) ≡ walk halfedges (vertexNumber v) (halfedgeNumber end) halfedges rows₀ (halfedgeNumber at₀))
+    × (walk-to halfedges left (vertexNumber v) (halfedgeNumber at) (halfedgeNumber end) rows ≡ walk-to halfedges halfedges (vertexNumber v) (halfedgeNumber at₀) (halfedgeNumber end) rows₀)
 
 abbrev μ-loop : tie.MeasureT-loop
 μ-loop rows₀ halfedges v end at₀ left₀ rows at left = left
