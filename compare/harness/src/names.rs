@@ -1,6 +1,6 @@
 //! The Rust crate's module `edge_op`, a side of its own: each of its functions on the Rust's own `ManifoldImpl`, beside the Rust's function of the same name on the
 //! same mesh. Where it is done, the Rust returns and every field is the same, bit for bit, `original_id` among them; where it is refused, the mesh is as it was,
-//! and the refusal is the one owed with room to the bounds.
+//! and the refusal is the one owed with room to the bounds; of a net that is not sound with the clause that the row breaks, as the second reading has it.
 
 use crate::chance::Chance;
 use crate::entries::{self, Entry};
@@ -156,7 +156,11 @@ pub fn beside(entry: &Entry, net: &Lent, asked: &Asked) -> Option<(u32, Option<S
                 _ => vec![],
             };
             let carried = if values.is_empty() { true } else { owed.values.ends_with(&values) || owed.values.starts_with(&values) };
-            if owed.number != number || !carried {
+            let explained = match refusal {
+                Refusal::Unsound { row, clause } => reading::clause(net, row) == (clause.number(), clause.row()),
+                _ => true,
+            };
+            if owed.number != number || !carried || !explained {
                 Some(format!("refused by {refusal}, owed {owed:?}"))
             } else {
                 differ(&mesh, &before)

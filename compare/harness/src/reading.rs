@@ -88,6 +88,38 @@ fn in_order(l: &Lent, h: usize) -> bool {
         && three[2].start != three[0].start
 }
 
+/// Why row h is not in order: the first clause that it breaks, in the order of the sentence, with the other row that this concerns (of the two beside it in its
+/// triangle, its next before the last). 8 is an empty row in a triangle that is not dead; 0 is a row in order.
+pub fn clause(l: &Lent, h: usize) -> (u32, Option<usize>) {
+    let (rows, vertices) = (l.used.halfedges as i64, l.used.vertices as i64);
+    let (j, k) = (next(h), next(next(h)));
+    let (me, second, third) = (row(l, h), row(l, j), row(l, k));
+    let empty = |r: &Row| r.start == -1 && r.end == -1 && r.pair == -1;
+    if empty(&me) {
+        return [(j, &second), (k, &third)].iter().find(|(_, r)| !empty(r)).map_or((0, None), |&(g, _)| (8, Some(g)));
+    }
+    if !(0..rows).contains(&me.pair.into()) {
+        return (1, None);
+    }
+    let p = me.pair as usize;
+    let partner = row(l, p);
+    if i64::from(partner.pair) != h as i64 {
+        (2, Some(p))
+    } else if ![me.start, me.end].iter().all(|&v| (0..vertices).contains(&v.into())) {
+        (3, None)
+    } else if second.pair < 0 || third.pair < 0 {
+        (4, Some(if second.pair < 0 { j } else { k }))
+    } else if me.end != second.start {
+        (5, Some(j))
+    } else if (partner.start, partner.end) != (me.end, me.start) {
+        (6, Some(p))
+    } else if me.start == second.start || second.start == third.start || third.start == me.start {
+        (7, None)
+    } else {
+        (0, None)
+    }
+}
+
 /// Answer 3: the least row that is not in order.
 pub fn first_unsound(l: &Lent) -> Option<usize> {
     (0..l.used.halfedges).find(|&h| !in_order(l, h))

@@ -1,10 +1,10 @@
 // The exported functions called on stored calls: each prints what it says, and the buffers that it was lent as they are left.
 use calltext::show;
-use told::LoopAnswer;
-use told::OwnersAnswer;
+use counttold::LoopAnswer;
+use counttold::OwnersAnswer;
+use counttold::SplitAnswer;
+use rowtold::RowAnswer;
 use told::Point;
-use told::RowAnswer;
-use told::SplitAnswer;
 use told::Used;
 
 pub fn next_halfedge(numbers: &[i32; 8]) {

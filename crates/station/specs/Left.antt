@@ -3,10 +3,10 @@ use mathlib.Core.List.{List}
 use Prim.Native.Nat.{ℕ}
 use lib.IntN.{ℤ}
 use Rattle.answers.specs.Answers.{Said}
-use Rattle.told.specs.declared.SplitAnswer.{SplitAnswer}
-use Rattle.told.specs.declared.OwnersAnswer.{OwnersAnswer}
-use Rattle.told.specs.declared.LoopAnswer.{LoopAnswer}
-use Rattle.told.specs.Told.{split-told, owners-told, loop-told}
+use Rattle.counttold.specs.declared.SplitAnswer.{SplitAnswer}
+use Rattle.counttold.specs.declared.OwnersAnswer.{OwnersAnswer}
+use Rattle.counttold.specs.declared.LoopAnswer.{LoopAnswer}
+use Rattle.counttold.specs.Told.{split-told, owners-told, loop-told}
 use Rattle.repairtold.specs.declared.DedupeEdgeAnswer.{DedupeEdgeAnswer}
 use Rattle.repairtold.specs.declared.CollapseEdgeAnswer.{CollapseEdgeAnswer}
 use Rattle.repairtold.specs.declared.DedupeEdgesAnswer.{DedupeEdgesAnswer}

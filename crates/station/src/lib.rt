@@ -18,23 +18,24 @@ ghost use Rattle.cleanup.specs.Cleanup.{cleanupTopology};
 ghost use Rattle.collapse.specs.CollapseEdge.{collapseEdge, tolerance};
 ghost use Rattle.explain.specs.Explain.{explainRow};
 ghost use Rattle.explain.specs.Answer.{explain-told};
-ghost use Rattle.told.specs.Told.{told, next-told, tri-told, length-told, row-told, update-told, counts-of, vector-of, eligible-of};
+ghost use Rattle.told.specs.Told.{told, next-told, tri-told, length-told, counts-of, vector-of, eligible-of};
+ghost use Rattle.rowtold.specs.Told.{row-told, update-told};
 ghost use Rattle.station.specs.Left.{and-left, split-left, owners-left, loop-left, edge-left, edges-left, cleanup-left, collapse-left};
+use counttold::LoopAnswer;
+use counttold::OwnersAnswer;
+use counttold::SplitAnswer;
 use explain::answer::ExplainAnswer;
 use repairtold::CleanupTopologyAnswer;
 use repairtold::CollapseEdgeAnswer;
 use repairtold::DedupeEdgeAnswer;
 use repairtold::DedupeEdgesAnswer;
+use rowtold::RowAnswer;
+use rowtold::UpdateAnswer;
 use told::Answer;
 use told::LengthAnswer;
-use told::LoopAnswer;
 use told::NextAnswer;
-use told::OwnersAnswer;
 use told::Point;
-use told::RowAnswer;
-use told::SplitAnswer;
 use told::TriAnswer;
-use told::UpdateAnswer;
 use told::Used;
 
 #[no_mangle]
@@ -83,7 +84,7 @@ pub extern "C" fn spoonferret_check_net(
 ) -> RowAnswer
     ensures { λ r. ⌜ r ≡ row-told (checkNet (counts-of used) (net (now (halfedges .entry)) (now (positions .entry)) (now (normals .entry)) (now (references .entry)) (now (properties .entry)))) ⌝ }
 {
-    told::of_check(soundness::check_net(
+    rowtold::of_check(soundness::check_net(
         told::counts_of(used),
         halfedges,
         positions,
@@ -155,7 +156,7 @@ pub extern "C" fn spoonferret_update_vert(
 ) -> UpdateAnswer
     ensures { λ r. ⌜ (r, now (halfedges .exit)) ≡ and-left update-told (updateVert (counts-of used) (net (now (halfedges .entry)) (now (positions .entry)) (now (normals .entry)) (now (references .entry)) (now (properties .entry))) vertex start end) ⌝ }
 {
-    told::of_update(updatevert::update_vert(
+    rowtold::of_update(updatevert::update_vert(
         told::counts_of(used),
         halfedges,
         positions,
@@ -180,7 +181,7 @@ pub extern "C" fn spoonferret_collapse_tri(
 ) -> RowAnswer
     ensures { λ r. ⌜ (r, now (halfedges .exit)) ≡ and-left row-told (collapseTri (counts-of used) (net (now (halfedges .entry)) (now (positions .entry)) (now (normals .entry)) (now (references .entry)) (now (properties .entry))) halfedge) ⌝ }
 {
-    told::of_collapse(collapsetri::collapse_tri(
+    rowtold::of_collapse(collapsetri::collapse_tri(
         told::counts_of(used),
         halfedges,
         positions,
@@ -203,7 +204,7 @@ pub extern "C" fn spoonferret_remove_if_folded(
 ) -> RowAnswer
     ensures { λ r. ⌜ (r, (now (halfedges .exit), now (positions .exit))) ≡ and-left row-told (removeIfFolded (counts-of used) (net (now (halfedges .entry)) (now (positions .entry)) (now (normals .entry)) (now (references .entry)) (now (properties .entry))) halfedge) ⌝ }
 {
-    told::of_remove(removefolded::remove_if_folded(
+    rowtold::of_remove(removefolded::remove_if_folded(
         told::counts_of(used),
         halfedges,
         positions,
@@ -230,7 +231,7 @@ pub extern "C" fn spoonferret_form_loop(
     ensures { λ r. ⌜ (r, now (halfedges .exit), now (positions .exit), now («spare_halfedges» .exit), now («spare_positions» .exit))
         ≡ loop-left (formLoop (counts-of used) (net (now (halfedges .entry)) (now (positions .entry)) (now (normals .entry)) (now (references .entry)) (now (properties .entry))) (now («spare_halfedges» .entry)) (now («spare_positions» .entry)) first second) ⌝ }
 {
-    told::of_loop(formloop::form_loop(
+    counttold::of_loop(formloop::form_loop(
         told::counts_of(used),
         halfedges,
         positions,
@@ -259,7 +260,7 @@ pub extern "C" fn spoonferret_orbit_owners(
     ensures { λ r. ⌜ (r, now (work .exit), now (list .exit))
         ≡ owners-left (orbitOwners (eligible-of «end_too») (counts-of used) (net (now (halfedges .entry)) (now (positions .entry)) (now (normals .entry)) (now (references .entry)) (now (properties .entry))) (now (work .entry)) (now (list .entry))) ⌝ }
 {
-    told::of_owners(owners::orbit_owners(
+    counttold::of_owners(owners::orbit_owners(
         told::counts_of(used),
         halfedges,
         positions,
@@ -286,7 +287,7 @@ pub extern "C" fn spoonferret_split_pinched_verts(
     ensures { λ r. ⌜ (r, now (halfedges .exit), now (positions .exit), now (work .exit), now (visit .exit))
         ≡ split-left (splitPinched (counts-of used) (net (now (halfedges .entry)) (now (positions .entry)) (now (normals .entry)) (now (references .entry)) (now (properties .entry))) (now (work .entry)) (now (visit .entry))) ⌝ }
 {
-    told::of_split(split::split_pinched_verts(
+    counttold::of_split(split::split_pinched_verts(
         told::counts_of(used),
         halfedges,
         positions,

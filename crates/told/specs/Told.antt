@@ -1,5 +1,5 @@
--- What each exported function tells its caller of what was said: the number, and each value that came with it; 0 for a value
--- that did not come.
+-- What a caller gives, as the entries take it; and what an exported function tells its caller of what was said: the number, and each value that came
+-- with it; 0 for a value that did not come.
 use mathlib.Core.Bool.{Bool, cond}
 use lib.Dec.{eqb}
 use Prim.Native.Nat.{ℕ}
@@ -14,11 +14,6 @@ use Rattle.told.specs.declared.Answer.{Answer}
 use Rattle.told.specs.declared.NextAnswer.{NextAnswer}
 use Rattle.told.specs.declared.TriAnswer.{TriAnswer}
 use Rattle.told.specs.declared.LengthAnswer.{LengthAnswer}
-use Rattle.told.specs.declared.RowAnswer.{RowAnswer}
-use Rattle.told.specs.declared.UpdateAnswer.{UpdateAnswer}
-use Rattle.told.specs.declared.SplitAnswer.{SplitAnswer}
-use Rattle.told.specs.declared.OwnersAnswer.{OwnersAnswer}
-use Rattle.told.specs.declared.LoopAnswer.{LoopAnswer}
 use Rattle.ownertests.specs.declared.Eligible.{Eligible}
 use Rattle.ownertests.specs.declared.Eligible.the-variants as E
 
@@ -54,27 +49,6 @@ tri-told s =
 abbrev pub length-told : Said → LengthAnswer
 length-told s = record { number = s .number; «squared_length» = bits (value (s .values) 0); limit = bits (value (s .values) 1) }
 
-abbrev pub row-told : Said → RowAnswer
-row-told s = record { number = s .number; row = counted (value (s .values) 0) }
-
-abbrev pub update-told : Said → UpdateAnswer
-update-told s = record { number = s .number; row = counted (value (s .values) 0) }
-
 -- the count that came at a place with the answer k; 0 with another
 abbrev pub count-on : ℕ → Said → ℕ → ℕ
 count-on k s i = cond (eqb (s .number) k) (counted (value (s .values) i)) 0
-
-abbrev pub split-told : Said → SplitAnswer
-split-told s = record { number = s .number; row = count-on 3 s 0; added = count-on 0 s 0; steps = count-on 0 s 1 }
-
-abbrev pub split-refused : ℕ → SplitAnswer
-split-refused number = record { number = number; row = 0; added = 0; steps = 0 }
-
-abbrev pub owners-told : Said → OwnersAnswer
-owners-told s = record { number = s .number; count = counted (value (s .values) 0) }
-
-abbrev pub loop-told : Said → LoopAnswer
-loop-told s = record { number = s .number; row = count-on 3 s 0; vertices = count-on 0 s 0 }
-
-abbrev pub loop-refused : ℕ → LoopAnswer
-loop-refused number = record { number = number; row = 0; vertices = 0 }

@@ -60,6 +60,14 @@ macro_rules! table {
                 }
             }
 
+            /// The other row that it concerns, where there is one.
+            pub fn row(&self) -> Option<usize> {
+                match self {
+                    $(Clause::$case $({ $other })? => None$(.or(Some(*$other)))?,)*
+                    Clause::Other { row, .. } => Some(*row),
+                }
+            }
+
             /// The clause of that number, with the other row.
             pub(crate) fn of(number: u32, row: usize) -> Clause {
                 match number {

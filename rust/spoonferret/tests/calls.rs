@@ -514,7 +514,7 @@ fn refusals_say_the_clause() {
         damage(&mut net);
         let before = net.clone();
         let refusal = Refusal::Unsound { row: 0, clause };
-        assert_eq!(clause.number() as usize, i + 1);
+        assert_eq!((clause.number() as usize, clause.row()), (i + 1, [None, Some(3), None, Some(1), Some(1), Some(3), None, Some(1)][i]));
         assert_eq!(net.explain_row(0), Ok(clause));
         assert!(refusal.to_string().ends_with(&clause.to_string()) && clause.to_string().contains(words), "{refusal}");
         let said = [

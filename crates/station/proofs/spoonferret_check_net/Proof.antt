@@ -1,6 +1,6 @@
 -- `station::spoonferret_check_net` meets its contract: it tells what `soundness::check_net` says.
 use mathlib.Core.Path.{ap}
-use Rattle.told.specs.Told.{row-told}
+use Rattle.rowtold.specs.Told.{row-told}
 use borrow.Author.Needs.{needs}
 use Rattle.station.proofs.spoonferret_check_net.Statement.{statement}
 use Rattle.station.proofs.spoonferret_check_net.Tie as tie

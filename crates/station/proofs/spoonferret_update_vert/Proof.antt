@@ -1,7 +1,7 @@
 -- `station::spoonferret_update_vert` meets its contract: it tells what `updatevert::update_vert` says, and the arrays are as that leaves them.
 use mathlib.Core.Path.{ap}
 use mir.Facts.{toZ-ofZ}
-use Rattle.told.specs.Told.{update-told}
+use Rattle.rowtold.specs.Told.{update-told}
 use Rattle.station.specs.Left.{and-left}
 use borrow.Author.Needs.{needs}
 use Rattle.station.proofs.spoonferret_update_vert.Statement.{statement}

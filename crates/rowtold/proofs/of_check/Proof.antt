@@ -1,7 +1,7 @@
--- `told::of_check` meets its contract: each case tells what `soundness::check_net` says.
+-- `rowtold::of_check` meets its contract: each case tells what `soundness::check_net` says.
 use borrow.Author.Needs.{needs}
-use Rattle.told.proofs.of_check.Statement.{statement}
-use Rattle.told.proofs.of_check.Tie as tie
+use Rattle.rowtold.proofs.of_check.Statement.{statement}
+use Rattle.rowtold.proofs.of_check.Tie as tie
 
 enum-told : tie.Need-enum-told
 enum-told c = search needs

@@ -1,7 +1,7 @@
--- `told::of_owners` meets its contract: each case tells what `owners::orbit_owners` says.
+-- `counttold::of_owners` meets its contract: each case tells what `owners::orbit_owners` says.
 use borrow.Author.Needs.{needs}
-use Rattle.told.proofs.of_owners.Statement.{statement}
-use Rattle.told.proofs.of_owners.Tie as tie
+use Rattle.counttold.proofs.of_owners.Statement.{statement}
+use Rattle.counttold.proofs.of_owners.Tie as tie
 
 enum-known-said : tie.Need-enum-known-said
 enum-known-said c = search needs

@@ -1,7 +1,7 @@
--- `told::of_update` meets its contract: each case tells what `updatevert::update_vert` says.
+-- `rowtold::of_collapse` meets its contract: each case tells what `collapsetri::collapse_tri` says.
 use borrow.Author.Needs.{needs}
-use Rattle.told.proofs.of_update.Statement.{statement}
-use Rattle.told.proofs.of_update.Tie as tie
+use Rattle.rowtold.proofs.of_collapse.Statement.{statement}
+use Rattle.rowtold.proofs.of_collapse.Tie as tie
 
 enum-told : tie.Need-enum-told
 enum-told c = search needs
@@ -21,9 +21,6 @@ enum-told-3 c = search needs
 enum-told-4 : tie.Need-enum-told-4
 enum-told-4 c = search needs
 
-enum-told-5 : tie.Need-enum-told-5
-enum-told-5 c = search needs
-
 returns : tie.Need-returns
 returns c = rw (c .enum-told .given .1)
 
@@ -39,11 +36,8 @@ returns-4 c = rw (c .enum-told3 .given .1)
 returns-5 : tie.Need-returns-5
 returns-5 c = rw (c .enum-told4 .given .1)
 
-returns-6 : tie.Need-returns-6
-returns-6 c = rw (c .enum-told5 .given .1)
-
-pub of-update-spec : {M : Type 1} → statement M
-of-update-spec =
+pub of-collapse-spec : {M : Type 1} → statement M
+of-collapse-spec =
     tie.close
     (tie.spec
     enum-told
@@ -52,10 +46,8 @@ of-update-spec =
     number-requires
     enum-told-3
     enum-told-4
-    enum-told-5
     returns
     returns-2
     returns-3
     returns-4
-    returns-5
-    returns-6)
+    returns-5)

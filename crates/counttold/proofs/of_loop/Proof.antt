@@ -1,7 +1,7 @@
--- `told::of_loop` meets its contract: each case tells what `formloop::form_loop` says.
+-- `counttold::of_loop` meets its contract: each case tells what `formloop::form_loop` says.
 use borrow.Author.Needs.{needs}
-use Rattle.told.proofs.of_loop.Statement.{statement}
-use Rattle.told.proofs.of_loop.Tie as tie
+use Rattle.counttold.proofs.of_loop.Statement.{statement}
+use Rattle.counttold.proofs.of_loop.Tie as tie
 
 enum-known-said : tie.Need-enum-known-said
 enum-known-said c = search needs

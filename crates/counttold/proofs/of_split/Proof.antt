@@ -1,7 +1,7 @@
--- `told::of_split` meets its contract: each case tells what `split::split_pinched_verts` says.
+-- `counttold::of_split` meets its contract: each case tells what `split::split_pinched_verts` says.
 use borrow.Author.Needs.{needs}
-use Rattle.told.proofs.of_split.Statement.{statement}
-use Rattle.told.proofs.of_split.Tie as tie
+use Rattle.counttold.proofs.of_split.Statement.{statement}
+use Rattle.counttold.proofs.of_split.Tie as tie
 
 enum-known-said : tie.Need-enum-known-said
 enum-known-said c = search needs

@@ -1,7 +1,7 @@
--- `told::of_remove` meets its contract: each case tells what `removefolded::remove_if_folded` says.
+-- `rowtold::of_remove` meets its contract: each case tells what `removefolded::remove_if_folded` says.
 use borrow.Author.Needs.{needs}
-use Rattle.told.proofs.of_remove.Statement.{statement}
-use Rattle.told.proofs.of_remove.Tie as tie
+use Rattle.rowtold.proofs.of_remove.Statement.{statement}
+use Rattle.rowtold.proofs.of_remove.Tie as tie
 
 enum-told : tie.Need-enum-told
 enum-told c = search needs
