@@ -13,7 +13,7 @@ mod nets;
 mod plot;
 
 use chance::Chance;
-use lent::Lent;
+use lent::{Lent, Row, ROW};
 use original::edge_op;
 use original::impl_mesh::ManifoldImpl;
 use spoonferret::{edge_op as safe, raw};
@@ -39,7 +39,7 @@ struct Course {
     /// a half-edge of two triangles that have folded onto each other, the last two
     folded: usize,
     /// the rows that a collapse at `from` may write, as they are
-    beside_start: Vec<(usize, [i32; 4])>,
+    beside_start: Vec<(usize, Row)>,
     /// the list that the Rust's collapse is given
     scratch: Vec<usize>,
     /// for the entries that work in rounds alone
@@ -113,7 +113,7 @@ const RACES: &[Race] = &[
         entry: "update_vert",
         beside: "the Rust's update_vert",
         ours: update_vert,
-        theirs: |c| edge_op::update_vert(&mut c.mesh, c.net.halfedges[4 * c.from + 1], c.from, c.to),
+        theirs: |c| edge_op::update_vert(&mut c.mesh, c.net.halfedges[ROW * c.from + 1], c.from, c.to),
         shares: &[("soundness", check_net)],
         told: Told::OfShares,
         wanted: &[],
@@ -298,31 +298,31 @@ fn orbit_owners(c: &mut Course) {
 
 fn update_vert(c: &mut Course) {
     let l = &mut c.net;
-    let vertex = l.halfedges[4 * c.from + 1];
+    let vertex = l.halfedges[ROW * c.from + 1];
     assert_eq!(call!(spoonferret_update_vert, l, vertex, c.from as i32, c.to as i32).number, 0);
 }
 
 /// The rows that collapse_tri writes: its triangle, and the partners of the second and third.
 fn touched(l: &Lent, h: usize) -> [usize; 5] {
     let (second, third) = (next(h), next(next(h)));
-    [h, second, third, l.halfedges[4 * second + 2] as usize, l.halfedges[4 * third + 2] as usize]
+    [h, second, third, l.halfedges[ROW * second + 2] as usize, l.halfedges[ROW * third + 2] as usize]
 }
 
 fn collapse_tri(c: &mut Course) {
     let l = &mut c.net;
     let rows = touched(l, c.from);
-    let kept: [[i32; 4]; 5] = rows.map(|h| l.halfedges[4 * h..4 * h + 4].try_into().expect("a row"));
+    let kept: [Row; 5] = rows.map(|h| *l.row(h));
     assert_eq!(call!(spoonferret_collapse_tri, l, c.from as i32).number, 0);
     for (h, row) in rows.into_iter().zip(kept) {
-        l.halfedges[4 * h..4 * h + 4].copy_from_slice(&row);
+        *l.row_mut(h) = row;
     }
 }
 
 fn remove_if_folded(c: &mut Course) {
     let l = &mut c.net;
-    let kept: [i32; 24] = l.halfedges[4 * c.folded..4 * c.folded + 24].try_into().expect("six rows");
+    let kept: [i32; 6 * ROW] = l.halfedges[ROW * c.folded..][..6 * ROW].try_into().expect("six rows");
     assert_eq!(call!(spoonferret_remove_if_folded, l, c.folded as i32).number, 0);
-    l.halfedges[4 * c.folded..4 * c.folded + 24].copy_from_slice(&kept);
+    l.halfedges[ROW * c.folded..][..6 * ROW].copy_from_slice(&kept);
 }
 
 fn form_loop(c: &mut Course) {
@@ -368,7 +368,7 @@ in_rounds!(cleanup_topology, spoonferret_cleanup_topology, |l: &Lent| l.used.hal
 
 fn dedupe_edge(c: &mut Course) {
     let l = &mut c.net;
-    let kept: [i32; 24] = l.halfedges[4 * c.folded..4 * c.folded + 24].try_into().expect("six rows");
+    let kept: [i32; 6 * ROW] = l.halfedges[ROW * c.folded..][..6 * ROW].try_into().expect("six rows");
     let told = call!(
         spoonferret_dedupe_edge,
         l,
@@ -379,16 +379,16 @@ fn dedupe_edge(c: &mut Course) {
         c.folded as i32
     );
     assert_eq!((told.number, told.vertices), (0, l.used.vertices + 2));
-    l.halfedges[4 * c.folded..4 * c.folded + 24].copy_from_slice(&kept);
+    l.halfedges[ROW * c.folded..][..6 * ROW].copy_from_slice(&kept);
 }
 
 /// A collapse at `from` on our side is put back: the rows beside the start, and its position.
 fn put_back(c: &mut Course) {
     let l = &mut c.net;
     for (h, row) in &c.beside_start {
-        l.halfedges[4 * h..4 * h + 4].copy_from_slice(row);
+        *l.row_mut(*h) = *row;
     }
-    let v = l.halfedges[4 * c.from] as usize;
+    let v = l.halfedges[ROW * c.from] as usize;
     l.positions[3 * v..3 * v + 3].fill(START.to_bits());
 }
 
@@ -474,7 +474,7 @@ fn collapsed_by_the_rust(c: &mut Course) {
     for (h, r) in &c.beside_start {
         c.mesh.halfedge[*h] = original::types::Halfedge { start_vert: r[0], end_vert: r[1], paired_halfedge: r[2], prop_vert: r[3] };
     }
-    let v = c.net.halfedges[4 * c.from] as usize;
+    let v = c.net.halfedges[ROW * c.from] as usize;
     c.mesh.vert_pos[v] = original::linalg::Vec3::new(START, START, START);
 }
 
@@ -483,8 +483,8 @@ const LONG: f64 = 1e9;
 const START: f64 = 0.5;
 
 /// The rows of the triangles at the start of h and their partners: what a collapse that forms no loop may write.
-fn rows_beside_start(l: &Lent, h: usize) -> Vec<(usize, [i32; 4])> {
-    let partner = |g: usize| l.halfedges[4 * g + 2] as usize;
+fn rows_beside_start(l: &Lent, h: usize) -> Vec<(usize, Row)> {
+    let partner = |g: usize| l.halfedges[ROW * g + 2] as usize;
     let mut all = vec![];
     let mut c = h;
     loop {
@@ -498,7 +498,7 @@ fn rows_beside_start(l: &Lent, h: usize) -> Vec<(usize, [i32; 4])> {
     }
     all.sort_unstable();
     all.dedup();
-    all.into_iter().map(|g| (g, l.halfedges[4 * g..4 * g + 4].try_into().expect("a row"))).collect()
+    all.into_iter().map(|g| (g, *l.row(g))).collect()
 }
 
 /// Work buffer and list are cleared before and after.
@@ -535,11 +535,11 @@ fn course(name: String, curve: Option<&'static str>, pieces: Vec<[usize; 3]>, in
     let mut net = nets::built(pieces, in_order, chance);
     let (folded, v) = (net.used.halfedges, net.used.vertices);
     let from = folded / 2;
-    let start = net.halfedges[4 * from] as usize;
+    let start = net.halfedges[ROW * from] as usize;
     net.positions[3 * start..3 * start + 3].fill(START.to_bits());
     for (k, pair) in [3, 5, 4, 0, 2, 1].into_iter().enumerate() {
         let (start, end) = ([0, 1, 2, 1, 0, 2][k], [1, 2, 0, 0, 2, 1][k]);
-        net.halfedges.extend([(v + start) as i32, (v + end) as i32, (folded + pair) as i32, -1]);
+        net.push([(v + start) as i32, (v + end) as i32, (folded + pair) as i32, -1]);
     }
     net.used.halfedges += 6;
     net.used.vertices += 3;
@@ -549,7 +549,7 @@ fn course(name: String, curve: Option<&'static str>, pieces: Vec<[usize; 3]>, in
     net.work_words = vec![0; net.used.halfedges + net.used.vertices];
     net.work_bytes = vec![0; net.used.halfedges];
     net.list = vec![0; net.used.halfedges];
-    net.spare_halfedges = vec![0; 4 * net.used.halfedges];
+    net.spare_halfedges = vec![0; ROW * net.used.halfedges];
     net.spare_positions = vec![0; 3 * net.used.vertices];
     let rows = mesh
         .halfedge
@@ -561,7 +561,7 @@ fn course(name: String, curve: Option<&'static str>, pieces: Vec<[usize; 3]>, in
         .iter()
         .map(|h| sequential::types::Halfedge { start_vert: h.start_vert, end_vert: h.end_vert, paired_halfedge: h.paired_halfedge, prop_vert: h.prop_vert })
         .collect();
-    let onward = |h: usize| net.halfedges[4 * next(h) + 2] as usize;
+    let onward = |h: usize| net.halfedges[ROW * next(h) + 2] as usize;
     let to = onward(onward(from));
     let beside_start = rows_beside_start(&net, from);
     let wide = name == WIDE;
@@ -607,9 +607,8 @@ fn mesh_of(l: &Lent) -> ManifoldImpl {
     ManifoldImpl {
         vert_pos: l.positions.chunks_exact(3).map(vector).collect(),
         halfedge: l
-            .halfedges
-            .chunks_exact(4)
-            .map(|r| original::types::Halfedge { start_vert: r[0], end_vert: r[1], paired_halfedge: r[2], prop_vert: r[3] })
+            .rows()
+            .map(|&[start_vert, end_vert, paired_halfedge, prop_vert]| original::types::Halfedge { start_vert, end_vert, paired_halfedge, prop_vert })
             .collect(),
         ..ManifoldImpl::default()
     }

@@ -16,7 +16,7 @@ mod nets;
 mod reading;
 
 use chance::Chance;
-use lent::{Guarded, GuardedNet, Lent};
+use lent::{Guarded, GuardedNet, Lent, ROW};
 use original::impl_mesh::ManifoldImpl;
 use reading::Shortness;
 use std::io::Write;
@@ -151,7 +151,7 @@ fn attempted(mesh: &mut ManifoldImpl, list: &mut Vec<usize>, numbers: &[i32]) ->
 
 /// Whether the Rust comes to its long arm: rows and positions are there, the fan is not seen to be open, and the edge is long.
 fn long(l: &Lent, numbers: &[i32]) -> bool {
-    let at = |h: usize, column: usize| l.halfedges[4 * h + column];
+    let at = |h: usize, column: usize| l.row(h)[column];
     let e = numbers[0] as usize;
     let p = at(e, 2);
     !reading::no_halfedge(l, p)
@@ -275,7 +275,7 @@ fn owed(step: &Step, l: &Lent, numbers: &[i32]) -> Owed {
 fn listed(step: &Step, l: &Lent, numbers: &[i32]) -> bool {
     step.name == "remove_if_folded" && {
         let h = numbers[0] as usize;
-        l.halfedges[4 * h + 2] >= i32::MAX - 1 && l.halfedges[4 * (h / 3 * 3 + (h + 1) % 3) + 2] == -1
+        l.row(h)[2] >= i32::MAX - 1 && l.row(h / 3 * 3 + (h + 1) % 3)[2] == -1
     }
 }
 
@@ -349,7 +349,7 @@ fn differs(said: &Result<StepAnswer, String>, left: &Lent, owed: &Owed) -> Optio
 
 /// Whether a pair of a row in use is beyond the half-edges in use.
 fn beyond(l: &Lent) -> bool {
-    l.halfedges.chunks_exact(4).take(l.used.halfedges).any(|r| r[2] >= 0 && reading::no_halfedge(l, r[2]))
+    l.rows().take(l.used.halfedges).any(|r| r[2] >= 0 && reading::no_halfedge(l, r[2]))
 }
 
 /// Each such pair as −1.
@@ -365,7 +365,7 @@ fn blunted(l: &Lent) -> Lent {
 
 /// What a step is asked of a net: everything where that is little, else some; numbers at and beside their limits now and then.
 fn asks(step: &Step, l: &Lent, most: usize, chance: &mut Chance) -> Vec<Vec<i32>> {
-    let rows = l.used.halfedges.min(l.halfedges.len() / 4);
+    let rows = l.used.halfedges.min(l.rows_lent());
     let vertices = l.used.vertices.min(l.positions.len() / 3);
     let mut all: Vec<Vec<i32>> = match step.halfedges {
         1 => (0..rows as i32).map(|h| vec![h]).collect(),
@@ -374,7 +374,7 @@ fn asks(step: &Step, l: &Lent, most: usize, chance: &mut Chance) -> Vec<Vec<i32>
             .map(|_| {
                 let first = chance.below(rows);
                 // often one that starts and ends where the first does, so that a walk may come to it
-                let same = (0..rows).filter(|&g| l.halfedges[4 * g..4 * g + 2] == l.halfedges[4 * first..4 * first + 2]).collect::<Vec<_>>();
+                let same = (0..rows).filter(|&g| l.row(g)[..2] == l.row(first)[..2]).collect::<Vec<_>>();
                 let second = if chance.once_in(3) { chance.below(rows) } else { *chance.pick(&same) };
                 vec![first as i32, second as i32]
             })
@@ -390,7 +390,7 @@ fn asks(step: &Step, l: &Lent, most: usize, chance: &mut Chance) -> Vec<Vec<i32>
     }
     if step.tries {
         for numbers in &mut all {
-            let end = usize::try_from(numbers[0]).ok().and_then(|h| l.halfedges.get(4 * h + 1)).map_or(0, |&v| v);
+            let end = usize::try_from(numbers[0]).ok().and_then(|h| l.halfedges.get(ROW * h + 1)).map_or(0, |&v| v);
             let any = chance.once_in(8);
             let place = |chance: &mut Chance| if any { chance.below(TOLERANCES.len()) as i32 } else { 0 };
             let first = *chance.pick(&[i32::MAX, end.saturating_add(1), end, 0]);
@@ -449,7 +449,7 @@ impl Table {
 /// The net with a list that holds its half-edges, anything in it; now and then it is one short.
 fn with_list(net: &Lent, chance: &mut Chance) -> Lent {
     let mut l = net.clone();
-    let enough = l.used.halfedges.min(l.halfedges.len() / 4);
+    let enough = l.used.halfedges.min(l.rows_lent());
     let length = if chance.once_in(40) { enough.saturating_sub(1) } else { enough + chance.below(3) };
     l.list = (0..length).map(|_| chance.bits() as u32).collect();
     l
@@ -460,7 +460,7 @@ fn damaged_often(net: &Lent, chance: &mut Chance) -> Lent {
     let mut l = net.clone();
     let (rows, vertices) = (l.used.halfedges, l.used.vertices);
     for _ in 0..2 + chance.below(4) {
-        let i = chance.below(4 * rows);
+        let i = chance.below(ROW * rows);
         let other = chance.below(rows) as i32;
         let vertex = chance.below(vertices + 2) as i32;
         l.halfedges[i] = *chance.pick(&[-1, -2, other, other, vertex, vertex, rows as i32, i32::MAX, i32::MAX - 1, i32::MIN]);
