@@ -11,7 +11,9 @@ no-room-requires c κs = search needs
 
 returns : tie.Need-returns
 unfolding append
-returns c = (λ h. rw (le-leb _ _ (c .before .if1 .taken), c .no-room .ensures), rw (c .no-room .ensures) (c .before .before .before .pre .1 .0))
+returns c =
+    let s = c .before .before .before .args in
+    (λ h. rw (le-leb (s .capacity) (s .run .vertices) (omega (arith, c .before .if1 .taken)), c .no-room .ensures), rw (c .no-room .ensures) (c .before .before .before .pre .1 .0))
 
 position-of-requires : tie.Need-position-of-requires
 position-of-requires c κs = search needs
