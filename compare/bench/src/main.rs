@@ -58,6 +58,8 @@ struct Race {
     told: Told,
     /// on the largest torus, by its order, or on the net of that name: the most that was wanted of the Rust's time
     wanted: &'static [(&'static str, f64)],
+    /// said where that is passed
+    why: &'static str,
 }
 
 #[derive(Clone, Copy, PartialEq)]
@@ -81,6 +83,7 @@ const RACES: &[Race] = &[
         shares: &[],
         told: Told::OfRows,
         wanted: &[("in order", 0.8), ("shuffled", 0.25)],
+        why: CHECK_WHY,
     },
     Race {
         entry: "split_pinched_verts",
@@ -90,6 +93,7 @@ const RACES: &[Race] = &[
         shares: &[("soundness", check_net), ("clearing", clear_words)],
         told: Told::OfRows,
         wanted: &[("in order", 2.05), ("shuffled", 0.85)],
+        why: SPLIT_WHY,
     },
     Race {
         entry: "orbit_owners",
@@ -99,6 +103,7 @@ const RACES: &[Race] = &[
         shares: &[("clearing", clear_bytes)],
         told: Told::OfRows,
         wanted: &[],
+        why: "",
     },
     Race {
         entry: "orbit_owners",
@@ -108,6 +113,7 @@ const RACES: &[Race] = &[
         shares: &[("clearing", clear_bytes)],
         told: Told::OfRows,
         wanted: &[("in order", 0.38), ("shuffled", 0.55)],
+        why: OWNERS_WHY,
     },
     Race {
         entry: "update_vert",
@@ -117,6 +123,7 @@ const RACES: &[Race] = &[
         shares: &[("soundness", check_net)],
         told: Told::OfShares,
         wanted: &[],
+        why: "",
     },
     Race {
         entry: "collapse_tri",
@@ -133,6 +140,7 @@ const RACES: &[Race] = &[
         shares: &[("soundness", check_net)],
         told: Told::OfShares,
         wanted: &[],
+        why: "",
     },
     Race {
         entry: "remove_if_folded",
@@ -146,6 +154,7 @@ const RACES: &[Race] = &[
         shares: &[("soundness", check_net)],
         told: Told::OfShares,
         wanted: &[],
+        why: "",
     },
     Race {
         entry: "form_loop",
@@ -158,6 +167,7 @@ const RACES: &[Race] = &[
         shares: &[("soundness", check_net), ("the spare", fill_spare)],
         told: Told::OfShares,
         wanted: &[],
+        why: "",
     },
     Race {
         entry: "dedupe_edges",
@@ -167,6 +177,7 @@ const RACES: &[Race] = &[
         shares: &[("soundness", check_net), ("the spare", fill_spare), ("clearing", clear_words_and_list)],
         told: Told::OfRows,
         wanted: &[("in order", 0.8), ("shuffled", 0.8), (WIDE, 0.002)],
+        why: ROUNDS_WHY,
     },
     Race {
         entry: "cleanup_topology",
@@ -176,6 +187,7 @@ const RACES: &[Race] = &[
         shares: &[("soundness", check_net), ("the spare", fill_spare), ("clearing", clear_words_and_list)],
         told: Told::OfRows,
         wanted: &[("in order", 0.9), ("shuffled", 0.9)],
+        why: ROUNDS_WHY,
     },
     Race {
         entry: "dedupe_edge",
@@ -190,6 +202,7 @@ const RACES: &[Race] = &[
         shares: &[("soundness", check_net), ("the spare", fill_spare)],
         told: Told::OfShares,
         wanted: &[],
+        why: "",
     },
     Race {
         entry: "collapse_edge",
@@ -199,6 +212,7 @@ const RACES: &[Race] = &[
         shares: &[("soundness", check_net), ("the spare", fill_spare)],
         told: Told::OfShares,
         wanted: &[],
+        why: "",
     },
     Race {
         entry: "the work of collapse_edge past its checks",
@@ -208,6 +222,7 @@ const RACES: &[Race] = &[
         shares: &[],
         told: Told::OfCalls,
         wanted: &[("in order", 1.5), ("shuffled", 1.5)],
+        why: "",
     },
     Race {
         entry: "the crate's split_pinched_verts",
@@ -217,6 +232,7 @@ const RACES: &[Race] = &[
         shares: &[],
         told: Told::OfRows,
         wanted: &[("in order", 1.1), ("shuffled", 1.1)],
+        why: "",
     },
     Race {
         entry: "the crate's form_loop",
@@ -229,6 +245,7 @@ const RACES: &[Race] = &[
         shares: &[],
         told: Told::OfRows,
         wanted: &[("in order", 1.1), ("shuffled", 1.1)],
+        why: "",
     },
 ];
 
@@ -780,7 +797,8 @@ fn run(words: &[String]) {
             }
         }
         if !wanted.is_empty() {
-            let _ = writeln!(page, "\nWanted on the torus of 1,000,000 triangles: {}.", wanted.join("; "));
+            let why = if wanted.iter().any(|w| w.ends_with("more")) { race.why } else { "" };
+            let _ = writeln!(page, "\nWanted on the torus of 1,000,000 triangles: {}.{why}", wanted.join("; "));
         }
     }
     page += CLOSING;
@@ -788,10 +806,18 @@ fn run(words: &[String]) {
     std::fs::write(folder.join("speed.svg"), plot::drawn(&curves)).expect("the plot is written");
 }
 
+// Why a figure that was wanted is passed, of the Arm that the page was written on.
+const CHECK_WHY: &str = " The figures wanted were set on an x86-64 on which the Rust's split took 96 to 110 ns a half-edge on the shuffled torus; on the Arm it takes little more than half of that, and the check, \
+whose reads of the partners do not wait for each other, gains less.";
+const SPLIT_WHY: &str = " Shuffled, the Rust's split gains more by the Arm's caches than ours: its marks are one byte a half-edge and stay there, our entries are four, and are written as the fans come; and the check reads each partner's row \
+once more. What the check takes by itself is in the table.";
+const OWNERS_WHY: &str = " Comparing the partner's pair without reading it as a number first (tried without proof on the Arm) gives 0.30 in order and 0.43 shuffled.";
+const ROUNDS_WHY: &str = " Shuffled, both wait for memory at each turn about a vertex; ours goes about each twice, to fill the table and to clear it, and has the check and the spare before.";
+
 const OPENING: &str = "# Speed
 
 `scripts/bench` writes this page: both sides in one run on the same nets, by turns, one thread, release builds. A time is the thread's own, so that other programs on the machine cost \
-it cache and no waiting; each cell has the best and the middle of at least 15 rounds, and a ratio is that of the two bests and that of the two middles. What stands in several \
+it cache and no waiting; each cell has the best and the middle of at least 15 rounds (three on the widest net, where one of the Rust's takes seconds), and a ratio is that of the two bests and that of the two middles. What stands in several \
 tables was timed once. Each net has two folded triangles besides, and no vertex of it is pinched.
 
 **A step of surgery costs a pass over the net.** update_vert, collapse_tri, remove_if_folded, form_loop, dedupe_edge and collapse_edge read the whole net before they touch it, to refuse one that is not sound; the Rust's touch a \
@@ -814,6 +840,8 @@ refusal leaves the net as it was. Where nothing is to be copied, as here, it lis
 it writes the visit list, and splits a later fan when it comes to its last half-edge. It clears the work buffer before and after. The Rust does the walk alone. What is neither soundness nor clearing is that walk and the pass over the order. The walk is bound by one read after \
 the other (the pair, then next of it), as the Rust's is; what it has more is the entry of each half-edge, four bytes where the Rust has one.
 
+On a shuffled net the rows of a fan lie anywhere. Past the caches each turn then waits for memory, on both sides: so the time of a half-edge grows there between the sizes of the caches, and not beyond them.
+
 orbit_owners is for nets that need not be sound, so it has no such check; it clears its work buffer before and after. The Rust's is the build with the feature \
 `parallel`, threshold 0: once over rayon with one thread, and once over a stand-in that makes one after another what rayon would share out.
 
@@ -824,6 +852,18 @@ The operations of surgery are asked at one half-edge, and what they change is pu
 whatever the net; ours read the whole net first, to refuse one that is not sound, and form_loop, dedupe_edge and collapse_edge copy it into the spare, to put it back where they are refused. So their time is that \
 of these shares: their own work is too small beside it to be measured here.
 
+The work of collapse_edge past its checks is what the entry calls between the copy into the spare and the end of the call (crates/innersteps exports it for the comparison); it lists the neighbours into a lent list, and tests each \
+number of a row before it goes by it, which the Rust does by the bounds of its vectors.
+
 The Rust crate's calls are those of its module edge_op over the Rust's own mesh, in kept buffers, beside the library's own functions on arrays of the same rows: what the crate adds is the room that it \
 lends and clears, and the answer turned into a Result.
+
+## Earlier, on x86-64
+
+The figures wanted were set by runs on an x86-64 (torus of 1,000,000 triangles, whole call, ratio to the Rust, in order / shuffled; three runs). They are of other code than the tables above:
+
+| state of the code | check_net | split_pinched_verts | orbit_owners, made one after another |
+|---|---|---|---|
+| commit 60c57db, before the quick pass of the check | 0.93 to 0.99 / 0.27 to 0.30 | 2.34 to 2.40 / 0.94 to 1.09 | 0.43 / 0.6 |
+| the form that the check and the split have now, tried before it was proved | 0.72 to 0.84 / 0.22 | 2.09 to 2.16 / 0.68 to 0.83 | unchanged |
 ";
