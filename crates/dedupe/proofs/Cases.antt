@@ -1,5 +1,6 @@
--- Cases of the step of dedupe_edge, from runs of the Rust and worked out by hand, proved by computing, as one table: done on both ways
--- of the first search, no room at each of the four appends, and a partner that isn't there.
+-- Cases of the step of dedupe_edge, proved by computing, as one table: done on both ways of the first search, as runs of the Rust leave rows,
+-- props, positions, normals and references; no room at each of the four appends, by document 01 (the Rust grows); and a partner that isn't
+-- there, where the Rust returns without a word.
 use mathlib.Core.Path.{_≡_, refl}
 use mathlib.Core.Bool.{Bool, true, false}
 use mathlib.Core.List.{List, [], _∷_, _++_, map}

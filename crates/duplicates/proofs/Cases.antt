@@ -1,5 +1,5 @@
--- Cases of the duplicates of a net, proved by computing, as one table: none, by hand; two in one fan, from a run of the Rust; and every
--- fan of a small torus, worked out by the rule in a script apart from this model, not by the Rust.
+-- Cases of the duplicates of a net, proved by computing, as one table: none, two in one fan, and every fan of a small torus. Each list is the
+-- one that a run of the Rust gives: its dedupe_orbit at each of its owners, rising.
 use mathlib.Core.Path.{_≡_, refl}
 use mathlib.Core.List.{List, [], _∷_, _++_, map}
 use Prim.Native.Nat.{ℕ}
