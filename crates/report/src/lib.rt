@@ -1,13 +1,12 @@
 // The text of a report, put into a lent buffer behind the bytes in use: the answer, and what comes with it.
 ghost use mathlib.Core.Path.{_≡_};
 ghost use mathlib.Core.List.{[], _∷_, _++_};
-ghost use Prim.Native.Nat.{_+_, _*_, _≤_};
+ghost use Prim.Native.Nat.{_+_, _*_, _<_, _≤_};
 ghost use lib.ListN.{length, take};
 ghost use Rattle.digits.specs.Written.{comma, decimal, signed};
-ghost use Rattle.rows.specs.Halfedges.{lent-halfedges};
+ghost use Rattle.rows.specs.Halfedges.{is-paired, lent-halfedges};
 ghost use Rattle.texts.specs.Appended.{Appended, line};
 ghost use Rattle.report.specs.Report.{Listed, one as Report·one, answer-word, visit-word, euler-word, commas, live-halfedges, live-triangles, euler, text-of};
-use rows::corners;
 
 // What is reported: added and steps, an answer, the least row that is not in order, or the first bad line.
 pub enum Outcome {
@@ -65,6 +64,14 @@ fn one(t: bool) -> usize
     if t { 1 } else { 0 }
 }
 
+// Half-edge i has a partner.
+fn is_live(rows: &[i32], i: usize) -> bool
+    requires { ⌜ i < lent-halfedges (now rows) ⌝ }
+    ensures { λ r. ⌜ r ≡ is-paired (now (rows .entry)) i ⌝ }
+{
+    halfedges::is_paired(rows, numbers::halfedge_counted(i))
+}
+
 // How many of the first n half-edges are live.
 fn live_halfedges(rows: &[i32], n: usize) -> usize
     requires { ⌜ n ≤ lent-halfedges (now rows) ⌝ }
@@ -73,7 +80,7 @@ fn live_halfedges(rows: &[i32], n: usize) -> usize
     let mut live = 0;
     let mut i = 0;
     while i < n {
-        live = live + one(corners::paired(rows, i));
+        live = live + one(is_live(rows, i));
         i += 1;
     }
     live
@@ -88,12 +95,7 @@ fn live_triangles(rows: &[i32], n: usize) -> usize
     let mut i = 0;
     while i < n {
         let h = 3 * i;
-        live = live
-            + one(
-                corners::paired(rows, h)
-                    & corners::paired(rows, h + 1)
-                    & corners::paired(rows, h + 2),
-            );
+        live = live + one(is_live(rows, h) & is_live(rows, h + 1) & is_live(rows, h + 2));
         i += 1;
     }
     live

@@ -17,8 +17,8 @@ abbrev μ-loop : tie.MeasureT-loop
 loop-holds : tie.Need-loop-holds Inv-loop μ-loop
 loop-holds c = (omega arith, live-none _, omega arith)
 
-paired-requires : tie.Need-paired-requires Inv-loop μ-loop
-paired-requires c κs = omega arith
+is-live-requires : tie.Need-is-live-requires Inv-loop μ-loop
+is-live-requires c κs = omega arith
 
 one-requires : tie.Need-one-requires Inv-loop μ-loop
 one-requires c κs = search needs
@@ -33,7 +33,7 @@ loop-less : tie.Need-loop-less Inv-loop μ-loop
 loop-less c = omega arith
 
 loop-again : tie.Need-loop-again Inv-loop μ-loop
-loop-again c = (omega arith, rw (c .one .ensures .0, c .before .paired .ensures, c .before .before .before .loop .inv .1) (live-on _ _), omega (arith, c .one .ensures .1))
+loop-again c = (omega arith, rw (c .one .ensures .0, c .before .is-live .ensures, c .before .before .before .loop .inv .1) (live-on _ _), omega (arith, c .one .ensures .1))
 
 returns : tie.Need-returns Inv-loop μ-loop
 returns c = let q : c .before .loop .i ≡ c .before .before .args .n = omega arith in (rw (← q) (c .before .loop .inv .1), omega arith)
@@ -45,7 +45,7 @@ live-halfedges-spec =
     Inv-loop
     μ-loop
     loop-holds
-    paired-requires
+    is-live-requires
     one-requires
     add-live
     add-i

@@ -20,20 +20,20 @@ loop-holds c = (omega arith, triangles-none _, omega arith)
 mul-h : tie.Need-mul-h Inv-loop μ-loop
 mul-h c = omega arith
 
-paired-requires : tie.Need-paired-requires Inv-loop μ-loop
-paired-requires c κs = omega arith
+is-live-requires : tie.Need-is-live-requires Inv-loop μ-loop
+is-live-requires c κs = omega arith
 
-add-paired : tie.Need-add-paired Inv-loop μ-loop
-add-paired c = omega arith
+add-is-live : tie.Need-add-is-live Inv-loop μ-loop
+add-is-live c = omega arith
 
-paired-requires-2 : tie.Need-paired-requires-2 Inv-loop μ-loop
-paired-requires-2 c κs = omega arith
+is-live-requires-2 : tie.Need-is-live-requires-2 Inv-loop μ-loop
+is-live-requires-2 c κs = omega arith
 
-add-paired-2 : tie.Need-add-paired-2 Inv-loop μ-loop
-add-paired-2 c = omega arith
+add-is-live-2 : tie.Need-add-is-live-2 Inv-loop μ-loop
+add-is-live-2 c = omega arith
 
-paired-requires-3 : tie.Need-paired-requires-3 Inv-loop μ-loop
-paired-requires-3 c κs = omega arith
+is-live-requires-3 : tie.Need-is-live-requires-3 Inv-loop μ-loop
+is-live-requires-3 c κs = omega arith
 
 one-requires : tie.Need-one-requires Inv-loop μ-loop
 one-requires c κs = search needs
@@ -48,7 +48,7 @@ loop-less : tie.Need-loop-less Inv-loop μ-loop
 loop-less c = omega arith
 
 loop-again : tie.Need-loop-again Inv-loop μ-loop
-loop-again c = (omega arith, rw (c .one .ensures .0, c .before .before .before .paired .ensures, c .before .before .paired2 .ensures, c .before .paired3 .ensures, c .before .before .before .before .before .loop .inv .1) (triangles-on _ _), omega (arith, c .one .ensures .1))
+loop-again c = (omega arith, rw (c .one .ensures .0, c .before .before .before .is-live .ensures, c .before .before .is-live2 .ensures, c .before .is-live3 .ensures, c .before .before .before .before .before .loop .inv .1) (triangles-on _ _), omega (arith, c .one .ensures .1))
 
 returns : tie.Need-returns Inv-loop μ-loop
 returns c = let q : c .before .loop .i ≡ c .before .before .args .n = omega arith in (rw (← q) (c .before .loop .inv .1), omega arith)
@@ -61,11 +61,11 @@ live-triangles-spec =
     μ-loop
     loop-holds
     mul-h
-    paired-requires
-    add-paired
-    paired-requires-2
-    add-paired-2
-    paired-requires-3
+    is-live-requires
+    add-is-live
+    is-live-requires-2
+    add-is-live-2
+    is-live-requires-3
     one-requires
     add-live
     add-i
