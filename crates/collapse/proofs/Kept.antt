@@ -9,9 +9,9 @@ use Rattle.rows.specs.Halfedges.{lent-halfedges}
 use Rattle.rows.specs.Triples.{lent-triples}
 use Rattle.steps.specs.Steps.{Middle, Stopped, begin, ended}
 use Rattle.steps.proofs.Frame.{frame-trans, frame-ended}
-use Rattle.rings.proofs.Kept.{Fit, Steps}
-use Rattle.collapsing.specs.declared.Tolerance.{Tolerance}
-use Rattle.collapsing.specs.Collapse.{Outcome, went, left-dead, left-open, left-long, refusal, collapse-at}
+use Rattle.spinning.proofs.Kept.{Fit, Steps}
+use Rattle.judging.specs.declared.Tolerance.{Tolerance}
+use Rattle.collapsing.specs.Collapse.{HowTried, went, left-dead, left-open, left-long, refusal, collapse-at}
 use Rattle.collapsing.proofs.Kept.{try-steps}
 use Rattle.collapse.specs.CollapseEdge.{stops, to-settle}
 
@@ -19,7 +19,7 @@ module _ {H capacity : ℕ} where
   stopped-too : {m k : Middle} → Steps H capacity m k → Steps H capacity m (ended Stopped k)
   stopped-too {m} {k} s = record { frame = frame-trans (s .frame) (frame-ended k Stopped); within = s .within }
 
-  stops-steps : (o : Outcome) (m k : Middle) → Steps H capacity m k → Steps H capacity m (stops o k)
+  stops-steps : (o : HowTried) (m k : Middle) → Steps H capacity m k → Steps H capacity m (stops o k)
   stops-steps went m k s = s
   stops-steps refusal m k s = s
   stops-steps left-dead m k s = stopped-too s
@@ -33,4 +33,4 @@ pub settle-steps : (H N capacity : ℕ) (props : Bool) (references : List ℤ) (
 settle-steps H N capacity props references t e rows positions q b thirds lent within room =
     let m = begin rows positions N in
     let x = collapse-at H capacity props references t e m in
-    rw q (stops-steps (x .outcome) m (x .middle) (try-steps props references t e m (record { thirds = thirds; rows-lent = lent; within = within; lent = room }) b))
+    rw q (stops-steps (x .how-tried) m (x .middle) (try-steps props references t e m (record { thirds = thirds; rows-lent = lent; within = within; lent = room }) b))

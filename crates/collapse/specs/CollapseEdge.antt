@@ -6,8 +6,7 @@ use lib.Dec.{ltb}
 use lib.Ieee.{Float}
 use lib.IntN.{ℤ, pos}
 use lib.ListN.{length}
-use Rattle.answers.specs.Answers.{Said, whole, done, shape, short-buffer, unsound, bad-number, no-room, stopped}
-use Rattle.answers.specs.Answers as A
+use Rattle.answers.specs.Answers.{Said, whole, done, shape, short-buffer, unsound, bad-number, dead, long, no-room, stopped}
 use Rattle.laws.specs.Stretches.{cleared}
 use Rattle.numbers.specs.Numbers.{Named, names, named-or, halfedgeNumber}
 use Rattle.rows.specs.Halfedges.{over-rows}
@@ -21,23 +20,24 @@ use Rattle.steps.specs.declared.Run.{Run}
 use Rattle.steps.specs.Steps.{Middle, Stopped, begin, ended, how-said}
 use Rattle.steps.specs.Settle.{settled}
 use Rattle.steps.specs.Entries.{past}
-use Rattle.collapsing.specs.declared.Tolerance.{Tolerance}
-use Rattle.collapsing.specs.Collapse.{Judgement, short, long, dead, unclosed, missing, judge, Outcome, went, left-dead, left-open, left-long, refusal, Trial, collapse-at}
+use Rattle.judging.specs.declared.Tolerance.{Tolerance}
+use Rattle.judging.specs.Judge.{Judgement, found-short, found-long, found-dead, found-open, found-missing, judge}
+use Rattle.collapsing.specs.Collapse.{HowTried, went, left-dead, left-open, left-long, refusal, Trial, collapse-at}
 use Rattle.collapse.specs.declared.Barred.{Barred}
 use Rattle.collapse.specs.declared.Barred.the-variants as B
 use Rattle.collapse.specs.declared.CollapseEdge.{CollapseEdge}
 use Rattle.collapse.specs.declared.CollapseEdge.the-variants as C
 
-abbrev pub collapseSaid : CollapseEdge → Said
-collapseSaid (C.Done vertices) = done (whole (pos vertices) ∷ [])
-collapseSaid C.Shape = shape
-collapseSaid C.ShortBuffer = short-buffer
-collapseSaid (C.Unsound h) = unsound (halfedgeNumber h)
-collapseSaid C.Number = bad-number
-collapseSaid C.Dead = A.dead
-collapseSaid (C.Long length limit) = A.long length limit
-collapseSaid C.NoRoom = no-room
-collapseSaid C.Stopped = stopped
+abbrev pub collapseEdgeSaid : CollapseEdge → Said
+collapseEdgeSaid (C.Done vertices) = done (whole (pos vertices) ∷ [])
+collapseEdgeSaid C.Shape = shape
+collapseEdgeSaid C.ShortBuffer = short-buffer
+collapseEdgeSaid (C.Unsound h) = unsound (halfedgeNumber h)
+collapseEdgeSaid C.Number = bad-number
+collapseEdgeSaid C.Dead = dead
+collapseEdgeSaid (C.Long length limit) = long length limit
+collapseEdgeSaid C.NoRoom = no-room
+collapseEdgeSaid C.Stopped = stopped
 
 abbrev pub runSaid : Run → Said
 runSaid r = how-said (r .vertices) (r .how)
@@ -63,15 +63,15 @@ pub data Bar : Type 0 where
   free : Bar
 
 abbrev pub bar : Judgement → Bar
-bar (short p v) = free
-bar (long s) = bars s
-bar dead = bars A.dead
-bar unclosed = free
-bar missing = free
+bar (found-short p v) = free
+bar (found-long s) = bars s
+bar found-dead = bars dead
+bar found-open = free
+bar found-missing = free
 
 abbrev pub barred : Barred → Bar
-barred B.Dead = bars A.dead
-barred (B.Long length limit) = bars (A.long length limit)
+barred B.Dead = bars dead
+barred (B.Long length limit) = bars (long length limit)
 barred B.Nothing = free
 
 abbrev pub bar-or : {A : Type 0} → Bar → (Said → A) → A → A
@@ -79,7 +79,7 @@ bar-or (bars s) refuse go = refuse s
 bar-or free refuse go = go
 
 -- what is settled: an edge that was left alone past the checks stops the steps. On a sound net there is none
-abbrev pub stops : Outcome → Middle → Middle
+abbrev pub stops : HowTried → Middle → Middle
 stops went m = m
 stops refusal m = m
 stops left-dead m = ended Stopped m
@@ -87,7 +87,7 @@ stops left-open m = ended Stopped m
 stops (left-long s) m = ended Stopped m
 
 abbrev pub to-settle : Trial → Middle
-to-settle t = stops (t .outcome) (t .middle)
+to-settle t = stops (t .how-tried) (t .middle)
 
 -- past the checks: the spare holds the rows in use as at entry, and the list reads zero over its stated length
 unfoldable pub collapseSettled : ℕ → ℕ → ℕ → ℕ → Bool → List ℤ → Tolerance → ℕ → List ℤ → List ℕ → List ℤ → List ℕ → List ℕ → Left
@@ -95,8 +95,8 @@ collapseSettled H N capacity room props references t e rows positions spare-half
     left-by (over-rows H rows spare-halfedges) (over-triples N positions spare-positions) (cleared room list)
     (settled N rows positions (to-settle (collapse-at H capacity props references t e (begin rows positions N))))
 
-unfoldable pub collapseNamed : ℕ → ℕ → ℕ → Bool → List ℤ → Tolerance → List ℤ → List ℕ → List ℤ → List ℕ → List ℕ → Named → Left
-collapseNamed H N room props references t rows positions spare-halfedges spare-positions list w =
+unfoldable pub collapseEdgeNamed : ℕ → ℕ → ℕ → Bool → List ℤ → Tolerance → List ℤ → List ℕ → List ℤ → List ℕ → List ℕ → Named → Left
+collapseEdgeNamed H N room props references t rows positions spare-halfedges spare-positions list w =
     named-or (left bad-number rows positions spare-halfedges spare-positions list) w (λ e.
     bar-or (bar (judge H N rows positions t e)) (λ s. left s rows positions spare-halfedges spare-positions list)
     (collapseSettled H N (vertex-capacity-over positions) room props references t e rows positions spare-halfedges spare-positions list))
@@ -113,6 +113,6 @@ collapseEdge c n spare-halfedges spare-positions list halfedge t =
     cond (is-shaped c n)
     (cond (spare-holds c spare-halfedges spare-positions && is-long (length list) (halfedge-capacity c n))
     (past (sound-or (least-out (c .halfedges) (c .vertices) (n .halfedges))) (λ s. left s (n .halfedges) (n .positions) spare-halfedges spare-positions list)
-    (collapseNamed (c .halfedges) (c .vertices) (halfedge-capacity c n) (carries-props c) (n .references) t (n .halfedges) (n .positions) spare-halfedges spare-positions list (names halfedge (c .halfedges))))
+    (collapseEdgeNamed (c .halfedges) (c .vertices) (halfedge-capacity c n) (carries-props c) (n .references) t (n .halfedges) (n .positions) spare-halfedges spare-positions list (names halfedge (c .halfedges))))
     (left short-buffer (n .halfedges) (n .positions) spare-halfedges spare-positions list))
     (left shape (n .halfedges) (n .positions) spare-halfedges spare-positions list)

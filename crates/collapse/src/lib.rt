@@ -12,11 +12,12 @@ ghost use Rattle.rows.specs.Triples.{lent-triples};
 ghost use Rattle.net.specs.Counts.{vertex-capacity-over};
 ghost use Rattle.net.specs.Net.{net};
 ghost use Rattle.steps.specs.Steps.{middle, begin, InUse, VerticesIn};
-ghost use Rattle.collapsing.specs.Collapse.{judge, tried, collapse-at};
-ghost use Rattle.collapse.specs.CollapseEdge.{collapseSaid, runSaid, left, bar, barred, to-settle, collapseSettled, collapseNamed, tolerance, collapseEdge};
-use collapsing::Judged;
-use collapsing::Tolerance;
+ghost use Rattle.judging.specs.Judge.{judge};
+ghost use Rattle.collapsing.specs.Collapse.{tried, collapse-at};
+ghost use Rattle.collapse.specs.CollapseEdge.{collapseEdgeSaid, runSaid, left, bar, barred, to-settle, collapseSettled, collapseEdgeNamed, tolerance, collapseEdge};
 use collapsing::Tried;
+use judging::Judged;
+use judging::Tolerance;
 use net::Counts;
 use numbers::Halfedge;
 use numbers::NamedHalfedge;
@@ -45,7 +46,7 @@ enum Barred {
 
 // How the steps ended, as the entry says it.
 fn answer(run: Run) -> CollapseEdge
-    ensures { λ r. ⌜ collapseSaid r ≡ runSaid run ⌝ }
+    ensures { λ r. ⌜ collapseEdgeSaid r ≡ runSaid run ⌝ }
 {
     let vertices = run.vertices;
     let how = run.how;
@@ -68,7 +69,7 @@ fn bar(
     requires { ⌜ (halfedgeNumber e < halfedges) × (InUse halfedges (now rows) × VerticesIn vertices (now positions)) ⌝ }
     ensures { λ r. ⌜ barred r ≡ bar (judge halfedges vertices (now (rows .entry)) (now (positions .entry)) tolerance (halfedgeNumber e)) ⌝ }
 {
-    match collapsing::judge(rows, positions, halfedges, vertices, tolerance, e) {
+    match judging::judge(rows, positions, halfedges, vertices, tolerance, e) {
         Judged::Short(_, _) => Barred::Nothing,
         Judged::Long(length, limit) => Barred::Long(length, limit),
         Judged::Dead => Barred::Dead,
@@ -139,7 +140,7 @@ fn collapse_settled(
     e: Halfedge,
 ) -> CollapseEdge
     requires { ⌜ ((halfedgeNumber e < halfedges) × InUse halfedges (now rows)) × (((vertices ≤ capacity) × VerticesIn capacity (now positions)) × ((props ≡ true → halfedges ≤ 3 * lent-triples (now references)) × (((halfedges ≤ lent-halfedges (now «spare_halfedges»)) × (vertices ≤ lent-triples (now «spare_positions»))) × ((halfedges ≤ room) × (room ≤ length (now list)))))) ⌝ }
-    ensures { λ r. ⌜ left (collapseSaid r) (now (rows .exit)) (now (positions .exit)) (now («spare_halfedges» .exit)) (now («spare_positions» .exit)) (now (list .exit)) ≡ collapseSettled halfedges vertices capacity room props (now (references .entry)) tolerance (halfedgeNumber e) (now (rows .entry)) (now (positions .entry)) (now («spare_halfedges» .entry)) (now («spare_positions» .entry)) (now (list .entry)) ⌝ }
+    ensures { λ r. ⌜ left (collapseEdgeSaid r) (now (rows .exit)) (now (positions .exit)) (now («spare_halfedges» .exit)) (now («spare_positions» .exit)) (now (list .exit)) ≡ collapseSettled halfedges vertices capacity room props (now (references .entry)) tolerance (halfedgeNumber e) (now (rows .entry)) (now (positions .entry)) (now («spare_halfedges» .entry)) (now («spare_positions» .entry)) (now (list .entry)) ⌝ }
 {
     rows::halfedges::copy(rows, spare_halfedges, halfedges);
     rows::triples::copy(positions, spare_positions, vertices);
@@ -184,7 +185,7 @@ fn collapse_named(
     halfedge: i32,
 ) -> CollapseEdge
     requires { ⌜ (InUse halfedges (now rows) × (vertices ≤ vertex-capacity-over (now positions))) × ((props ≡ true → halfedges ≤ 3 * lent-triples (now references)) × (((halfedges ≤ lent-halfedges (now «spare_halfedges»)) × (vertices ≤ lent-triples (now «spare_positions»))) × ((halfedges ≤ room) × (room ≤ length (now list))))) ⌝ }
-    ensures { λ r. ⌜ left (collapseSaid r) (now (rows .exit)) (now (positions .exit)) (now («spare_halfedges» .exit)) (now («spare_positions» .exit)) (now (list .exit)) ≡ collapseNamed halfedges vertices room props (now (references .entry)) tolerance (now (rows .entry)) (now (positions .entry)) (now («spare_halfedges» .entry)) (now («spare_positions» .entry)) (now (list .entry)) (names halfedge halfedges) ⌝ }
+    ensures { λ r. ⌜ left (collapseEdgeSaid r) (now (rows .exit)) (now (positions .exit)) (now («spare_halfedges» .exit)) (now («spare_positions» .exit)) (now (list .exit)) ≡ collapseEdgeNamed halfedges vertices room props (now (references .entry)) tolerance (now (rows .entry)) (now (positions .entry)) (now («spare_halfedges» .entry)) (now («spare_positions» .entry)) (now (list .entry)) (names halfedge halfedges) ⌝ }
 {
     let NamedHalfedge::At(e) = numbers::halfedge_given(halfedge, halfedges) else {
         return CollapseEdge::Number;
@@ -229,7 +230,7 @@ pub fn collapse_edge(
     tol: f64,
     epsilon: f64,
 ) -> CollapseEdge
-    ensures { λ r. ⌜ left (collapseSaid r) (now (halfedges .exit)) (now (positions .exit)) (now («spare_halfedges» .exit)) (now («spare_positions» .exit)) (now (list .exit)) ≡ collapseEdge counts (net (now (halfedges .entry)) (now (positions .entry)) (now (normals .entry)) (now (references .entry)) (now (properties .entry))) (now («spare_halfedges» .entry)) (now («spare_positions» .entry)) (now (list .entry)) halfedge (tolerance «first_new_vert» tol epsilon) ⌝ }
+    ensures { λ r. ⌜ left (collapseEdgeSaid r) (now (halfedges .exit)) (now (positions .exit)) (now («spare_halfedges» .exit)) (now («spare_positions» .exit)) (now (list .exit)) ≡ collapseEdge counts (net (now (halfedges .entry)) (now (positions .entry)) (now (normals .entry)) (now (references .entry)) (now (properties .entry))) (now («spare_halfedges» .entry)) (now («spare_positions» .entry)) (now (list .entry)) halfedge (tolerance «first_new_vert» tol epsilon) ⌝ }
 {
     if !net::shaped(
         counts,

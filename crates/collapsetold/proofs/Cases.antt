@@ -18,10 +18,13 @@ use Rattle.walks.specs.Walk.{onward, moved, walk-to, update}
 use Rattle.triangles.specs.Triangles.{emptied, collapsed, collapse}
 use Rattle.folds.specs.Folds.{lose, lose-folded, has-pair, outer-paired, join, gone-row, clear, take-out, fold-at, fold}
 use Rattle.loops.specs.Loops.{append, copy, exchange, cross-at, cross, loop-at}
-use Rattle.rings.specs.Ring.{ring, carried, find, turn-at, turn-once, tired, inner, spin}
-use Rattle.collapsing.specs.declared.Tolerance.{Tolerance}
-use Rattle.collapsing.specs.Collapse.{between, judge, close, about, short-at, collapse-at}
-use Rattle.collapse.specs.CollapseEdge.{Left, collapseSettled, collapseNamed, collapseEdge, tolerance}
+use Rattle.rings.specs.Ring.{ring, find}
+use Rattle.carrying.specs.Carried.{carried}
+use Rattle.spinning.specs.Spin.{turn-at, turn-once, tired, inner, spin}
+use Rattle.judging.specs.declared.Tolerance.{Tolerance}
+use Rattle.judging.specs.Judge.{between, judge}
+use Rattle.collapsing.specs.Collapse.{close, about, short-at, collapse-at}
+use Rattle.collapse.specs.CollapseEdge.{Left, collapseSettled, collapseEdgeNamed, collapseEdge, tolerance}
 use Rattle.example.specs.Example.{live-row, dead-row, P-rows, P-positions, counts, bare}
 
 pub record Case : Type 0 where
@@ -110,5 +113,5 @@ abbrev told : Left → Said × (List ℤ × List ℕ)
 told l = (l .said, (l .halfedges, l .positions))
 
 pub cases-hold : map (λ (k : Case). told (run k)) cases ≡ map (λ (k : Case). (k .says, (k .rows-after, k .positions-after))) cases
-unfolding collapseEdge collapseNamed collapseSettled collapse-at judge between short-at about close ring carried find turn-at turn-once tired inner spin collapse collapsed emptied loop-at cross cross-at exchange copy append update walk-to onward moved fold fold-at take-out clear gone-row join outer-paired has-pair lose-folded lose paired triple put-triple over-triples zero-triples over-rows column set-column next is-live in-order first-failing is-shaped triangle-capacity-over vertex-capacity-over property-capacity-over add sub mul lt ofInt ofBits
+unfolding collapseEdge collapseEdgeNamed collapseSettled collapse-at judge between short-at about close ring carried find turn-at turn-once tired inner spin collapse collapsed emptied loop-at cross cross-at exchange copy append update walk-to onward moved fold fold-at take-out clear gone-row join outer-paired has-pair lose-folded lose paired triple put-triple over-triples zero-triples over-rows column set-column next is-live in-order first-failing is-shaped triangle-capacity-over vertex-capacity-over property-capacity-over add sub mul lt ofInt ofBits
 cases-hold = refl

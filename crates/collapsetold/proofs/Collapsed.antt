@@ -36,10 +36,11 @@ use Rattle.foldsound.specs.Removed.{Former, Latter, Outer, Rejoined, Lost, Remo
 use Rattle.foldsound.proofs.Edge.{f-outside, x-outer, y-outer, outer-next, outer-flip, outside-next}
 use Rattle.foldsound.proofs.Steps.{fold-left}
 use Rattle.loopsound.proofs.Ways.{way-live, way-end, way-not-end, way-not-before}
-use Rattle.rings.specs.Ring.{Fixed, ring, Spun, spin}
+use Rattle.rings.specs.Ring.{ring}
+use Rattle.spinning.specs.Spin.{Fixed, Spun, spin}
 use Rattle.collapsing.specs.Collapse.{close, about}
 use Rattle.collapsetold.specs.Plain.{along, meets, Plain}
-use Rattle.collapsetold.specs.Collapsed.{About, AboutEnd, NoLoop, prop-by, JoinedTwice, Joined, twice, only-former, only-latter, both, Collapsed, CollapsedAway}
+use Rattle.collapsetold.specs.Collapsed.{About, AboutEnd, NoLoop, prop-by, PairedTwice, OuterPaired, two-pairs, one-past-former, one-past-latter, no-pair, EdgeCollapsed, CollapsedAway}
 use Rattle.collapsetold.proofs.Plain.{around, spin-plain, begun-told, along-other}
 use Rattle.collapsetold.proofs.Ways.{SamePairs, AsCarried, Spares, Lists, comes, updated, listed, meets-none, carried-along, spin-goes, along-kept}
 
@@ -334,19 +335,19 @@ module _ (H N : ℕ) (R : List ℤ) (P : List ℕ) (thirds : H % 3 ≡ 0) (lent 
       other-props : (g : ℕ) → (Way g → ⊥) → propOf R4 (next g) ≡ propOf R (next g)
       other-props g n = told4 .props (next g) ∙ props3 (next g) ∙ ⊎-elim (λ t. absurd (n (t .0))) (λ t. t .1) (told2 g) ∙ told1 .props (next g)
 
-      pub columns : Joined e p R R4 → Collapsed H e p props references R R4
+      pub columns : OuterPaired e p R R4 → EdgeCollapsed H e p props references R R4
       columns j = record {
         e-dead = record { this = told4 .first-empty; second = told4 .second-empty; third = told4 .third-empty };
         p-dead = p-dead;
         props-kept = λ g n. ap (propOf R4) (sym (next-round g)) ∙ other-props (next (next g)) (λ w. n (subst (Outer e p) (next-round g) (outer-next (way-outer w)))) ∙ ap (propOf R) (next-round g);
-        joined = j;
+        outer-paired = j;
         about-outer = λ g w. way-outer w;
         about-start = λ g w. (way-start w, way-next w);
         ends = λ g w. told4 .ends g (way-outer w .off-first) ∙ ⊎-elim (λ t. t .1 .0) (λ t. absurd (t .0 w)) (told3 g) ∙ sym (row l .end-is);
         starts = λ g w. told4 .starts (next g) (outer-next (way-outer w) .off-first) ∙ ⊎-elim (λ t. t .1 .1) (λ t. absurd (t .0 w)) (told3 g) ∙ sym (row l .end-is);
         other-ends = λ g o n. told4 .ends g (o .off-first) ∙ ends3 g n ∙ told1 .ends g (o .off-other);
         other-starts = λ g o n. told4 .starts (next g) (outer-next o .off-first) ∙ starts3 g n ∙ told1 .starts (next g) (outer-next o .off-other);
-        carried = λ g w. told4 .props (next g) ∙ props3 (next g) ∙ ⊎-elim (λ t. t .1) (λ t. absurd (t .0 w)) (told2 g) ∙ rule1 (next g);
+        props-carried = λ g w. told4 .props (next g) ∙ props3 (next g) ∙ ⊎-elim (λ t. t .1) (λ t. absurd (t .0 w)) (told2 g) ∙ rule1 (next g);
         other-props = other-props;
         behind = told4 .behind ∙ walk-below H v to H R2 a (la .in-use) thirds ∙ whole2 .0 ∙ told1 .behind;
         same-length = told4 .same-length ∙ length3;
@@ -367,7 +368,7 @@ module _ (H N : ℕ) (R : List ℤ) (P : List ℕ) (thirds : H % 3 ≡ 0) (lent 
     pub record Comes : Type 0 where
       pub left : List ℤ
       pub goes : (Q : List ℕ) → collapse H e (begin R3 Q N) ≡ begin left Q N
-      pub told : Collapsed H e p props references R left
+      pub told : EdgeCollapsed H e p props references R left
 
     c-in : c < H
     c-in = row (on l) .pair-in
@@ -445,7 +446,7 @@ module _ (H N : ℕ) (R : List ℤ) (P : List ℕ) (thirds : H % 3 ≡ 0) (lent 
         record {
           left = R4 c d (e1-kept nf) (e2-kept nl) c-in d-in (c-out nf .off-other) (d-out nl .off-other);
           goes = collapse-on c d (e1-kept nf) (e2-kept nl) c-in d-in (c-out nf .off-other) (d-out nl .off-other);
-          told = columns c d (e1-kept nf) (e2-kept nl) c-in d-in (c-out nf .off-other) (d-out nl .off-other) (twice nf nl (record {
+          told = columns c d (e1-kept nf) (e2-kept nl) c-in d-in (c-out nf .off-other) (d-out nl .off-other) (two-pairs nf nl (record {
             e1-outer = c-out nf;
             e2-outer = d-out nl;
             p1-outer = a-out nl;
@@ -464,7 +465,7 @@ module _ (H N : ℕ) (R : List ℤ) (P : List ℕ) (thirds : H % 3 ≡ 0) (lent 
         record {
           left = R4 a d (e1-met f) (e2-kept nl) a-in d-in a-off (d-out nl .off-other);
           goes = collapse-on a d (e1-met f) (e2-kept nl) a-in d-in a-off (d-out nl .off-other);
-          told = columns a d (e1-met f) (e2-kept nl) a-in d-in a-off (d-out nl .off-other) (only-former f nl (record {
+          told = columns a d (e1-met f) (e2-kept nl) a-in d-in a-off (d-out nl .off-other) (one-past-former f nl (record {
             x-outer = d-out nl;
             y-outer = a-out nl;
             x-pair = t .pair-b d-off;
@@ -479,7 +480,7 @@ module _ (H N : ℕ) (R : List ℤ) (P : List ℕ) (thirds : H % 3 ≡ 0) (lent 
         record {
           left = R4 c b (e1-kept nf) (e2-met f) c-in b-in (c-out nf .off-other) b-off;
           goes = collapse-on c b (e1-kept nf) (e2-met f) c-in b-in (c-out nf .off-other) b-off;
-          told = columns c b (e1-kept nf) (e2-met f) c-in b-in (c-out nf .off-other) b-off (only-latter nf f (record {
+          told = columns c b (e1-kept nf) (e2-met f) c-in b-in (c-out nf .off-other) b-off (one-past-latter nf f (record {
             x-outer = c-out nf;
             y-outer = b-out nf;
             x-pair = t .pair-a c-off;
@@ -492,7 +493,7 @@ module _ (H N : ℕ) (R : List ℤ) (P : List ℕ) (thirds : H % 3 ≡ 0) (lent 
     come-both f k = record {
       left = R4 a b (e1-met f) (e2-met k) a-in b-in a-off b-off;
       goes = collapse-on a b (e1-met f) (e2-met k) a-in b-in a-off b-off;
-      told = columns a b (e1-met f) (e2-met k) a-in b-in a-off b-off (both f k (λ g o.
+      told = columns a b (e1-met f) (e2-met k) a-in b-in a-off b-off (no-pair f k (λ g o.
           let na : g ≡ a → ⊥ = λ q. o .off-first .not-third (q ∙ back-to (on (on l)) k) in
           let nb : g ≡ b → ⊥ = λ q. o .off-first .not-second (q ∙ back-to (on l) f) in
           pairs4 a b (e1-met f) (e2-met k) a-in b-in a-off b-off g o na nb na nb));

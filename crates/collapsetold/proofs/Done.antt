@@ -30,9 +30,10 @@ use Rattle.steps.specs.Settle.{settled}
 use Rattle.walks.specs.Walk.{onward}
 use Rattle.walks.specs.Way.{move}
 use Rattle.folds.specs.Folds.{nan}
-use Rattle.rings.proofs.Vertices.{fold-same}
-use Rattle.collapsing.specs.declared.Tolerance.{Tolerance}
-use Rattle.collapsing.specs.Collapse.{between, ran, short-at, about, collapse-at}
+use Rattle.spinning.proofs.Vertices.{fold-same}
+use Rattle.judging.specs.declared.Tolerance.{Tolerance}
+use Rattle.judging.specs.Judge.{between}
+use Rattle.collapsing.specs.Collapse.{ran, short-at, about, collapse-at}
 use Rattle.collapse.specs.CollapseEdge.{Left, left, left-by, to-settle, collapseSettled, carries-props, collapseEdge}
 use Rattle.collapsetold.specs.Collapsed.{NoLoop, Once, CollapsedAway, Done}
 use Rattle.collapsetold.proofs.Collapsed.{neighbours, comes-round, way-or-not, all-come, lost-lent, folds, away}

@@ -1,5 +1,5 @@
 -- A collapse that forms no loop, of an edge that is not duplicated in the fan of its start, leaves rows in order: before anything is folded,
--- and after. Of the rows at entry it takes what Collapsed says in words.
+-- and after. Of the rows at entry it takes what EdgeCollapsed says in words.
 use mathlib.Core.Path.{_≡_, refl, sym, ap, _∙_, subst}
 use mathlib.Core.Bool.{Bool}
 use mathlib.Core.List.{List}
@@ -25,7 +25,7 @@ use Rattle.walks.specs.Way.{move, Reached, OnWay}
 use Rattle.foldsound.specs.Removed.{Former, Latter, Outer}
 use Rattle.foldsound.proofs.Edge.{Inside, side, outer-next, partner-outer}
 use Rattle.loopsound.proofs.Ways.{way-live, way-first, way-step, way-unstep, way-last}
-use Rattle.collapsetold.specs.Collapsed.{About, JoinedTwice, Joined, twice, only-former, only-latter, both, Collapsed, CollapsedAway, Once}
+use Rattle.collapsetold.specs.Collapsed.{About, PairedTwice, OuterPaired, two-pairs, one-past-former, one-past-latter, no-pair, EdgeCollapsed, CollapsedAway, Once}
 use Rattle.collapsetold.proofs.Collapsed.{fold-empty}
 
 -- a number in a row that names one below N
@@ -33,7 +33,7 @@ abbrev Names : ℕ → ℤ → Type 0
 Names N z = (z ≡ pos (natAbs z)) × (natAbs z < N)
 
 module _ (H N : ℕ) (R : List ℤ) (thirds : H % 3 ≡ 0) (lent : H ≤ lent-halfedges R) (in-order : (h : ℕ) → h < H → InOrder H N R h) (e : ℕ) (l : Live H R e)
-    (props : Bool) (references X : List ℤ) (k : Collapsed H e (partner R e) props references R X)
+    (props : Bool) (references X : List ℤ) (k : EdgeCollapsed H e (partner R e) props references R X)
     (way-or-not : (g : ℕ) → About R e g ⊎ (About R e g → ⊥)) (reached : Reached R (move R (partner R e)) (next (next e)))
     (single : Once R e) where
   abbrev row : {h : ℕ} → Live H R h → LiveRow H N R h
@@ -156,13 +156,13 @@ module _ (H N : ℕ) (R : List ℤ) (thirds : H % 3 ≡ 0) (lent : H ≤ lent-ha
 
   -- every other pair is kept
   pairs-kept : (g : ℕ) → Outer e p g → (g ≡ a → ⊥) → (g ≡ b → ⊥) → (g ≡ c → ⊥) → (g ≡ d → ⊥) → pairOf X g ≡ pairOf R g
-  pairs-kept g o na nb nc nd = go (k .joined)
+  pairs-kept g o na nb nc nd = go (k .outer-paired)
     where
-      go : Joined e p R X → pairOf X g ≡ pairOf R g
-      go (twice nf nl j) = j .pairs g o nc nd na nb
-      go (only-former f nl j) = j .pairs g o nd na
-      go (only-latter nf f j) = j .pairs g o nc nb
-      go (both f m j) = j g o
+      go : OuterPaired e p R X → pairOf X g ≡ pairOf R g
+      go (two-pairs nf nl j) = j .pairs g o nc nd na nb
+      go (one-past-former f nl j) = j .pairs g o nd na
+      go (one-past-latter nf f j) = j .pairs g o nc nb
+      go (no-pair f m j) = j g o
 
   -- what a row's partner must be
   record Mate (h : ℕ) : Type 0 where
@@ -186,8 +186,8 @@ module _ (H N : ℕ) (R : List ℤ) (thirds : H % 3 ≡ 0) (lent : H ≤ lent-ha
   mates : {h : ℕ} → Live H R h → Outer e p h → Mate h
   mates {h} m o = by-row (ℕ-discrete h a) (ℕ-discrete h b) (ℕ-discrete h c) (ℕ-discrete h d)
     where
-      at-a : h ≡ a → Joined e p R X → Mate h
-      at-a q (twice nf nl j) = subst Mate (sym q) (record {
+      at-a : h ≡ a → OuterPaired e p R X → Mate h
+      at-a q (two-pairs nf nl j) = subst Mate (sym q) (record {
         mate = b;
         mate-in = row (on (on lp)) .pair-in;
         is = j .p1-pair;
@@ -195,7 +195,7 @@ module _ (H N : ℕ) (R : List ℤ) (thirds : H % 3 ≡ 0) (lent : H ≤ lent-ha
         start = b-start (j .p2-outer) ∙ sym (a-end (j .p1-outer));
         end = b-end (j .p2-outer) ∙ sym (a-start (j .p1-outer));
       })
-      at-a q (only-former f nl j) =
+      at-a q (one-past-former f nl j) =
           let w = sym (ap (startOf R) f) ∙ row (on l) .pair-start ∙ row (on l) .joined in
           subst Mate (sym q) (record {
             mate = d;
@@ -205,11 +205,11 @@ module _ (H N : ℕ) (R : List ℤ) (thirds : H % 3 ≡ 0) (lent : H ≤ lent-ha
             start = d-start nl (j .x-outer) ∙ sym (a-end (j .y-outer));
             end = d-end (j .x-outer) ∙ sym (a-start (j .y-outer) ∙ w);
           })
-      at-a q (only-latter nf f j) = absurd (o .off-first .not-third (q ∙ back-to (on (on l)) f))
-      at-a q (both f g j) = absurd (o .off-first .not-third (q ∙ back-to (on (on l)) g))
+      at-a q (one-past-latter nf f j) = absurd (o .off-first .not-third (q ∙ back-to (on (on l)) f))
+      at-a q (no-pair f g j) = absurd (o .off-first .not-third (q ∙ back-to (on (on l)) g))
 
-      at-b : h ≡ b → Joined e p R X → Mate h
-      at-b q (twice nf nl j) = subst Mate (sym q) (record {
+      at-b : h ≡ b → OuterPaired e p R X → Mate h
+      at-b q (two-pairs nf nl j) = subst Mate (sym q) (record {
         mate = a;
         mate-in = row (on lp) .pair-in;
         is = j .p2-pair;
@@ -217,8 +217,8 @@ module _ (H N : ℕ) (R : List ℤ) (thirds : H % 3 ≡ 0) (lent : H ≤ lent-ha
         start = a-start (j .p1-outer) ∙ sym (b-end (j .p2-outer));
         end = a-end (j .p1-outer) ∙ sym (b-start (j .p2-outer));
       })
-      at-b q (only-former f nl j) = absurd (o .off-first .not-second (q ∙ back-to (on l) f))
-      at-b q (only-latter nf f j) =
+      at-b q (one-past-former f nl j) = absurd (o .off-first .not-second (q ∙ back-to (on l) f))
+      at-b q (one-past-latter nf f j) =
           let w = sym (row (on (on l)) .pair-end) ∙ ap (endOf R) f ∙ row (on lp) .joined in
           subst Mate (sym q) (record {
             mate = c;
@@ -228,10 +228,10 @@ module _ (H N : ℕ) (R : List ℤ) (thirds : H % 3 ≡ 0) (lent : H ≤ lent-ha
             start = c-start (j .x-outer) ∙ w ∙ sym (b-end (j .y-outer));
             end = c-end (j .x-outer) ∙ sym (b-start (j .y-outer));
           })
-      at-b q (both f g j) = absurd (o .off-first .not-second (q ∙ back-to (on l) f))
+      at-b q (no-pair f g j) = absurd (o .off-first .not-second (q ∙ back-to (on l) f))
 
-      at-c : h ≡ c → Joined e p R X → Mate h
-      at-c q (twice nf nl j) = subst Mate (sym q) (record {
+      at-c : h ≡ c → OuterPaired e p R X → Mate h
+      at-c q (two-pairs nf nl j) = subst Mate (sym q) (record {
         mate = d;
         mate-in = row (on (on l)) .pair-in;
         is = j .e1-pair;
@@ -239,8 +239,8 @@ module _ (H N : ℕ) (R : List ℤ) (thirds : H % 3 ≡ 0) (lent : H ≤ lent-ha
         start = d-start nl (j .e2-outer) ∙ sym (c-end (j .e1-outer));
         end = d-end (j .e2-outer) ∙ sym (c-start (j .e1-outer));
       })
-      at-c q (only-former f nl j) = absurd (o .off-other .not-third (q ∙ f))
-      at-c q (only-latter nf f j) =
+      at-c q (one-past-former f nl j) = absurd (o .off-other .not-third (q ∙ f))
+      at-c q (one-past-latter nf f j) =
           let w = sym (row (on (on l)) .pair-end) ∙ ap (endOf R) f ∙ row (on lp) .joined in
           subst Mate (sym q) (record {
             mate = b;
@@ -250,10 +250,10 @@ module _ (H N : ℕ) (R : List ℤ) (thirds : H % 3 ≡ 0) (lent : H ≤ lent-ha
             start = b-start (j .y-outer) ∙ sym (c-end (j .x-outer));
             end = b-end (j .y-outer) ∙ sym (c-start (j .x-outer) ∙ w);
           })
-      at-c q (both f g j) = absurd (o .off-other .not-third (q ∙ f))
+      at-c q (no-pair f g j) = absurd (o .off-other .not-third (q ∙ f))
 
-      at-d : h ≡ d → Joined e p R X → Mate h
-      at-d q (twice nf nl j) = subst Mate (sym q) (record {
+      at-d : h ≡ d → OuterPaired e p R X → Mate h
+      at-d q (two-pairs nf nl j) = subst Mate (sym q) (record {
         mate = c;
         mate-in = row (on l) .pair-in;
         is = j .e2-pair;
@@ -261,7 +261,7 @@ module _ (H N : ℕ) (R : List ℤ) (thirds : H % 3 ≡ 0) (lent : H ≤ lent-ha
         start = c-start (j .e1-outer) ∙ sym (d-end (j .e2-outer));
         end = c-end (j .e1-outer) ∙ sym (d-start nl (j .e2-outer));
       })
-      at-d q (only-former f nl j) =
+      at-d q (one-past-former f nl j) =
           let w = sym (ap (startOf R) f) ∙ row (on l) .pair-start ∙ row (on l) .joined in
           subst Mate (sym q) (record {
             mate = a;
@@ -271,14 +271,14 @@ module _ (H N : ℕ) (R : List ℤ) (thirds : H % 3 ≡ 0) (lent : H ≤ lent-ha
             start = a-start (j .y-outer) ∙ w ∙ sym (d-end (j .x-outer));
             end = a-end (j .y-outer) ∙ sym (d-start nl (j .x-outer));
           })
-      at-d q (only-latter nf f j) = absurd (o .off-other .not-second (q ∙ f))
-      at-d q (both f g j) = absurd (o .off-other .not-second (q ∙ g))
+      at-d q (one-past-latter nf f j) = absurd (o .off-other .not-second (q ∙ f))
+      at-d q (no-pair f g j) = absurd (o .off-other .not-second (q ∙ g))
 
       by-row : Dec (h ≡ a) → Dec (h ≡ b) → Dec (h ≡ c) → Dec (h ≡ d) → Mate h
-      by-row (yes q) y z w = at-a q (k .joined)
-      by-row (no na) (yes q) z w = at-b q (k .joined)
-      by-row (no na) (no nb) (yes q) w = at-c q (k .joined)
-      by-row (no na) (no nb) (no nc) (yes q) = at-d q (k .joined)
+      by-row (yes q) y z w = at-a q (k .outer-paired)
+      by-row (no na) (yes q) z w = at-b q (k .outer-paired)
+      by-row (no na) (no nb) (yes q) w = at-c q (k .outer-paired)
+      by-row (no na) (no nb) (no nc) (yes q) = at-d q (k .outer-paired)
       by-row (no na) (no nb) (no nc) (no nd) =
           let q = partner-outer H N R thirds in-order e p l lp refl (across l) m o nc nd na nb in
           let not-a : partner R h ≡ a → ⊥ = λ r. o .off-other .not-second (sym (across m) ∙ ap (partner R) r ∙ across (on lp)) in
@@ -412,16 +412,16 @@ module _ (H N : ℕ) (R : List ℤ) (thirds : H % 3 ≡ 0) (lent : H ≤ lent-ha
 
   -- the first row of the way is live, where it is not e's
   pub first-live : (Latter R e p → ⊥) → Live H X a
-  first-live n = go (k .joined)
+  first-live n = go (k .outer-paired)
     where
       so : Outer e p a → Live H X a
       so o = record { in-use = la .in-use; paired = live-in la o .pair-is }
 
-      go : Joined e p R X → Live H X a
-      go (twice nf nl j) = so (j .p1-outer)
-      go (only-former f nl j) = so (j .y-outer)
-      go (only-latter nf f j) = absurd (n f)
-      go (both f g j) = absurd (n g)
+      go : OuterPaired e p R X → Live H X a
+      go (two-pairs nf nl j) = so (j .p1-outer)
+      go (one-past-former f nl j) = so (j .y-outer)
+      go (one-past-latter nf f j) = absurd (n f)
+      go (no-pair f g j) = absurd (n g)
 
   -- and what remove_if_folded's step does there goes on
   pub fold-runs : (Q : List ℕ) → N ≤ most-vertices → N ≤ lent-triples Q → fold H a (begin X Q N) .run ≡ running N Going

@@ -23,7 +23,9 @@ use Rattle.triangles.specs.Triangles.{collapsed, collapse}
 use Rattle.triangles.proofs.Told.{collapse-goes}
 use Rattle.folds.specs.Folds.{nan, lose}
 use Rattle.loops.specs.Loops.{loop-at}
-use Rattle.rings.specs.Ring.{Fixed, carried, find, Turned, out, on, formed, turn-at, turn-once, Spun, spun, after, tired, inner, spin}
+use Rattle.rings.specs.Ring.{find}
+use Rattle.carrying.specs.Carried.{carried}
+use Rattle.spinning.specs.Spin.{Fixed, Turned, out, on, formed, turn-at, turn-once, Spun, spun, after, tired, inner, spin}
 use Rattle.collapsetold.specs.Plain.{carry, along, meets, Plain}
 
 or-false : (a b : Bool) → a || b ≡ false → (a ≡ false) × (b ≡ false)

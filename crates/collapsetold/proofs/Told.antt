@@ -36,11 +36,12 @@ use Rattle.steps.specs.declared.How.{How}
 use Rattle.steps.specs.declared.How.the-variants as W
 use Rattle.steps.specs.Steps.{Middle, begin, refused, how-said}
 use Rattle.steps.specs.Entries.{past}
-use Rattle.collapsing.specs.declared.Tolerance.{Tolerance}
-use Rattle.collapsing.specs.Collapse.{Judgement, short, long, dead, unclosed, missing, vector, between, short-or, judge, collapse-at}
+use Rattle.judging.specs.declared.Tolerance.{Tolerance}
+use Rattle.judging.specs.Judge.{Judgement, found-short, found-long, found-dead, found-open, found-missing, vector, between, short-or, judge}
+use Rattle.collapsing.specs.Collapse.{collapse-at}
 use Rattle.collapse.specs.declared.CollapseEdge.{CollapseEdge}
 use Rattle.collapse.specs.declared.CollapseEdge.the-variants as C
-use Rattle.collapse.specs.CollapseEdge.{Left, left, collapseSaid, bar, bar-or, to-settle, collapseSettled, collapseNamed, carries-props, collapseEdge}
+use Rattle.collapse.specs.CollapseEdge.{Left, left, collapseEdgeSaid, bar, bar-or, to-settle, collapseSettled, collapseEdgeNamed, carries-props, collapseEdge}
 use Rattle.refusals.specs.Refusals.{of-sound, Names, NamesLive, Early, Refusals}
 use Rattle.refusals.proofs.Law.{Tells, checked, Begins, stops, goes}
 use Rattle.refusals.proofs.Entries.{long-refusals}
@@ -70,7 +71,7 @@ answer-of s =
     (cond (eqb (s .number) 6) C.NoRoom
     (cond (eqb (s .number) 7) C.Stopped (C.Long (first-float (s .values)) (second-float (s .values))))))))))
 
-told : (a : CollapseEdge) → answer-of (collapseSaid a) ≡ a
+told : (a : CollapseEdge) → answer-of (collapseEdgeSaid a) ≡ a
 told (C.Done vertices) = refl
 told C.Shape = refl
 told C.ShortBuffer = refl
@@ -82,11 +83,11 @@ told C.NoRoom = refl
 told C.Stopped = refl
 
 pub collapse-agree : (c : Counts) (n : Net) (spare-halfedges : List ℤ) (spare-positions list : List ℕ) (halfedge : ℤ) (t : Tolerance) (a b : CollapseEdge) (h k : List ℤ) (p q : List ℕ) (sh tk : List ℤ) (sp tq l m : List ℕ) →
-    left (collapseSaid a) h p sh sp l ≡ collapseEdge c n spare-halfedges spare-positions list halfedge t → left (collapseSaid b) k q tk tq m ≡ collapseEdge c n spare-halfedges spare-positions list halfedge t →
+    left (collapseEdgeSaid a) h p sh sp l ≡ collapseEdge c n spare-halfedges spare-positions list halfedge t → left (collapseEdgeSaid b) k q tk tq m ≡ collapseEdge c n spare-halfedges spare-positions list halfedge t →
     (a ≡ b) × ((h ≡ k) × ((p ≡ q) × ((sh ≡ tk) × ((sp ≡ tq) × (l ≡ m)))))
 collapse-agree c n spare-halfedges spare-positions list halfedge t a b h k p q sh tk sp tq l m x y =
     let e = x ∙ sym y in
-    (read-back collapseSaid answer-of told a b (ap (λ (o : Left). o .said) e), (ap (λ (o : Left). o .halfedges) e, (ap (λ (o : Left). o .positions) e, (ap (λ (o : Left). o .spare-halfedges) e, (ap (λ (o : Left). o .spare-positions) e, ap (λ (o : Left). o .list) e)))))
+    (read-back collapseEdgeSaid answer-of told a b (ap (λ (o : Left). o .said) e), (ap (λ (o : Left). o .halfedges) e, (ap (λ (o : Left). o .positions) e, (ap (λ (o : Left). o .spare-halfedges) e, (ap (λ (o : Left). o .spare-positions) e, ap (λ (o : Left). o .list) e)))))
 
 -- ---- 6 or 7: the half-edge rows are as at entry, and of the positions only the free rows that the steps had filled are changed: they read zero
 pub collapse-refused : (H N capacity room : ℕ) (props : Bool) (references : List ℤ) (t : Tolerance) (e : ℕ) (rows : List ℤ) (positions : List ℕ) (spare-halfedges : List ℤ) (spare-positions list : List ℕ) →
@@ -107,18 +108,18 @@ between-says positions t u v =
 
 -- ---- an edge with a pair is not judged dead, and what it is judged by is 8
 abbrev JudgedLate : Judgement → Type 0
-JudgedLate (short p v) = 0 < 1
-JudgedLate (long s) = s .number ≡ 8
-JudgedLate dead = ⊥
-JudgedLate unclosed = 0 < 1
-JudgedLate missing = 0 < 1
+JudgedLate (found-short p v) = 0 < 1
+JudgedLate (found-long s) = s .number ≡ 8
+JudgedLate found-dead = ⊥
+JudgedLate found-open = 0 < 1
+JudgedLate found-missing = 0 < 1
 
 module _ (H N : ℕ) (rows : List ℤ) (positions : List ℕ) (t : Tolerance) (e : ℕ) where
   paired-late : is-paired rows e ≡ true → JudgedLate (judge H N rows positions t e)
   unfolding judge
   paired-late a = rw a (partner-late (names (pairOf rows e) H))
     where
-      end-late : (p u : ℕ) (w : Named) → JudgedLate (named-or missing w (λ v. cond (is-paired rows (next p)) (short-or p v (between positions t u v)) unclosed))
+      end-late : (p u : ℕ) (w : Named) → JudgedLate (named-or found-missing w (λ v. cond (is-paired rows (next p)) (short-or p v (between positions t u v)) found-open))
       end-late p u nothing = omega arith
       end-late p u (at v) =
           by-test (is-paired rows (next p))
@@ -126,16 +127,16 @@ module _ (H N : ℕ) (rows : List ℤ) (positions : List ℕ) (t : Tolerance) (e
           (λ b. rw b (omega arith))
 
       start-late : (p : ℕ) (w : Named) →
-          JudgedLate (named-or missing w (λ u. named-or missing (names (endOf rows e) N) (λ v. cond (is-paired rows (next p)) (short-or p v (between positions t u v)) unclosed)))
+          JudgedLate (named-or found-missing w (λ u. named-or found-missing (names (endOf rows e) N) (λ v. cond (is-paired rows (next p)) (short-or p v (between positions t u v)) found-open)))
       start-late p nothing = omega arith
       start-late p (at u) = end-late p u (names (endOf rows e) N)
 
       partner-late : (w : Named) →
-          JudgedLate (named-or missing w (λ p. named-or missing (names (startOf rows e) N) (λ u. named-or missing (names (endOf rows e) N) (λ v. cond (is-paired rows (next p)) (short-or p v (between positions t u v)) unclosed))))
+          JudgedLate (named-or found-missing w (λ p. named-or found-missing (names (startOf rows e) N) (λ u. named-or found-missing (names (endOf rows e) N) (λ v. cond (is-paired rows (next p)) (short-or p v (between positions t u v)) found-open))))
       partner-late nothing = omega arith
       partner-late (at p) = start-late p (names (startOf rows e) N)
 
-  unpaired-dead : is-paired rows e ≡ false → judge H N rows positions t e ≡ dead
+  unpaired-dead : is-paired rows e ≡ false → judge H N rows positions t e ≡ found-dead
   unfolding judge
   unpaired-dead a = rw a
 
@@ -174,11 +175,11 @@ module _ (c : Counts) (n : Net) (spare-halfedges : List ℤ) (spare-positions li
       by-test (refused m) (λ r. rw r (steps-late (m .run .vertices) (m .run .how))) (λ r. rw r (steps-late (m .run .vertices) (m .run .how)))
 
   judged-late : (e : ℕ) (j : Judgement) → JudgedLate j → Early (bar-or (bar j) at-entry (done-at e) .said) → ⊥
-  judged-late e (short p v) l = settled-late e .0
-  judged-late e (long s) l = λ x. omega (arith, l, x .1)
-  judged-late e dead l = absurd l
-  judged-late e unclosed l = settled-late e .0
-  judged-late e missing l = settled-late e .0
+  judged-late e (found-short p v) l = settled-late e .0
+  judged-late e (found-long s) l = λ x. omega (arith, l, x .1)
+  judged-late e found-dead l = absurd l
+  judged-late e found-open l = settled-late e .0
+  judged-late e found-missing l = settled-late e .0
 
   -- what a caller lends is long enough
   abbrev pub Lends : Type 0
@@ -191,14 +192,14 @@ module _ (c : Counts) (n : Net) (spare-halfedges : List ℤ) (spare-positions li
   lends-told = told-both (told-both (told-least H (lent-halfedges spare-halfedges)) (told-least N (lent-triples spare-positions))) (told-least (halfedge-capacity c n) (length list))
 
   pub collapse-refusals : (halfedge : ℤ) → Refusals (of-sound c n Lends (Names H halfedge) (NamesLive c n halfedge)) said-left at-entry (collapseEdge c n spare-halfedges spare-positions list halfedge t)
-  unfolding collapseEdge collapseNamed
+  unfolding collapseEdge collapseEdgeNamed
   collapse-refusals halfedge =
       long-refusals c n said-left at-entry (λ s. refl) Lends (Names H halfedge) (NamesLive c n halfedge)
       long-enough (is-named (names halfedge H)) (is-live c n (names halfedge H))
       lends-told (told-names H halfedge) (told-live c n halfedge)
-      (λ w. past (sound-or w) at-entry (collapseNamed H N (halfedge-capacity c n) (carries-props c) (n .references) t rows (n .positions) spare-halfedges spare-positions list (names halfedge H))) (λ h. refl) (go (names halfedge H))
+      (λ w. past (sound-or w) at-entry (collapseEdgeNamed H N (halfedge-capacity c n) (carries-props c) (n .references) t rows (n .positions) spare-halfedges spare-positions list (names halfedge H))) (λ h. refl) (go (names halfedge H))
     where
-      go : (w : Named) → Begins said-left at-entry (collapseNamed H N (halfedge-capacity c n) (carries-props c) (n .references) t rows (n .positions) spare-halfedges spare-positions list w) (checked true true nothing (is-named w) (is-live c n w))
+      go : (w : Named) → Begins said-left at-entry (collapseEdgeNamed H N (halfedge-capacity c n) (carries-props c) (n .references) t rows (n .positions) spare-halfedges spare-positions list w) (checked true true nothing (is-named w) (is-live c n w))
       go (at e) =
           by-test (is-paired rows e)
           (λ a. rw a (goes said-left at-entry (λ s. refl) _ (judged-late e (judge H N rows (n .positions) t e) (paired-late H N rows (n .positions) t e a))))
@@ -240,7 +241,7 @@ module _ (c : Counts) (n : Net) (spare-halfedges : List ℤ) (spare-positions li
 
     pub reached : (s : Sound c n) → Lends → (e : ℕ) → halfedge ≡ pos e → (l : Live H rows e) →
         result ≡ judged-by (s .shaped .thirds) (s .in-order) e l (between (n .positions) t (start-vertex rows e) (end-vertex rows e))
-    unfolding collapseEdge collapseNamed
+    unfolding collapseEdge collapseEdgeNamed
     reached s b e q l =
         rw (
           shaped-true c n (s .shaped),

@@ -29,8 +29,10 @@ use Rattle.walks.specs.Walk.{onward, moved, walk-to}
 use Rattle.walks.specs.Way.{move, OnWay}
 use Rattle.walks.proofs.Kept.{length-moved, other-moved}
 use Rattle.walks.proofs.Told.{moved-end, moved-start, unmoved-end, unmoved-start, move-live, AsTold, way-on, way-back}
-use Rattle.rings.specs.Ring.{Listing, ringed, listed-first, ring, carried, find, Turned, out, on, formed, Fixed, turn-at, turn-once, Spun, spun, tired, inner, spin}
-use Rattle.rings.proofs.Kept.{carried-kept}
+use Rattle.rings.specs.Ring.{Listing, ringed, listed-first, ring, find}
+use Rattle.carrying.specs.Carried.{carried}
+use Rattle.spinning.specs.Spin.{Turned, out, on, formed, Fixed, turn-at, turn-once, Spun, spun, tired, inner, spin}
+use Rattle.carrying.proofs.Kept.{carried-kept}
 use Rattle.collapsetold.specs.Plain.{carry, along, meets}
 use Rattle.collapsetold.specs.Collapsed.{prop-by}
 use Rattle.collapsetold.proofs.Plain.{around, carried-other}

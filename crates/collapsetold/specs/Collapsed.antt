@@ -46,7 +46,7 @@ prop-by props references e p rows h =
     (propOf rows h)
 
 -- the two triangles do not meet again: the partners of e1 and e2 are paired, and those of p1 and p2; every other pair but the six is as it was
-pub record JoinedTwice (e p : ℕ) (rows between : List ℤ) : Type 0 where
+pub record PairedTwice (e p : ℕ) (rows between : List ℤ) : Type 0 where
   pub e1-outer : Outer e p (partner rows (next e))
   pub e2-outer : Outer e p (partner rows (next (next e)))
   pub p1-outer : Outer e p (partner rows (next p))
@@ -58,27 +58,27 @@ pub record JoinedTwice (e p : ℕ) (rows between : List ℤ) : Type 0 where
   pub pairs : (g : ℕ) → Outer e p g → (g ≡ partner rows (next e) → ⊥) → (g ≡ partner rows (next (next e)) → ⊥) → (g ≡ partner rows (next p) → ⊥) → (g ≡ partner rows (next (next p)) → ⊥) →
       pairOf between g ≡ pairOf rows g
 
--- the outer partners are joined: two and two; where the triangles meet again on one side, the two on the other; on both, there are none
-pub data Joined (e p : ℕ) (rows between : List ℤ) : Type 0 where
-  twice : (Former rows e p → ⊥) → (Latter rows e p → ⊥) → JoinedTwice e p rows between → Joined e p rows between
-  only-former : Former rows e p → (Latter rows e p → ⊥) → Rejoined e p (partner rows (next (next e))) (partner rows (next p)) rows between → Joined e p rows between
-  only-latter : (Former rows e p → ⊥) → Latter rows e p → Rejoined e p (partner rows (next e)) (partner rows (next (next p))) rows between → Joined e p rows between
-  both : Former rows e p → Latter rows e p → ((g : ℕ) → Outer e p g → pairOf between g ≡ pairOf rows g) → Joined e p rows between
+-- the outer partners are joined: two and two; where the triangles meet again on one side, the two on the other; on no-pair, there are none
+pub data OuterPaired (e p : ℕ) (rows between : List ℤ) : Type 0 where
+  two-pairs : (Former rows e p → ⊥) → (Latter rows e p → ⊥) → PairedTwice e p rows between → OuterPaired e p rows between
+  one-past-former : Former rows e p → (Latter rows e p → ⊥) → Rejoined e p (partner rows (next (next e))) (partner rows (next p)) rows between → OuterPaired e p rows between
+  one-past-latter : (Former rows e p → ⊥) → Latter rows e p → Rejoined e p (partner rows (next e)) (partner rows (next (next p))) rows between → OuterPaired e p rows between
+  no-pair : Former rows e p → Latter rows e p → ((g : ℕ) → Outer e p g → pairOf between g ≡ pairOf rows g) → OuterPaired e p rows between
 
 -- the two triangles are dead and keep their props, their outer partners are joined; every other corner of the start's fan is now where the
 -- edge ended, its prop by the rule; every other number is as it was
-pub record Collapsed (H e p : ℕ) (props : Bool) (references rows between : List ℤ) : Type 0 where
+pub record EdgeCollapsed (H e p : ℕ) (props : Bool) (references rows between : List ℤ) : Type 0 where
   pub e-dead : DeadRow between e
   pub p-dead : DeadRow between p
   pub props-kept : (g : ℕ) → (Outer e p g → ⊥) → propOf between g ≡ propOf rows g
-  pub joined : Joined e p rows between
+  pub outer-paired : OuterPaired e p rows between
   pub about-outer : (g : ℕ) → About rows e g → Outer e p g
   pub about-start : (g : ℕ) → About rows e g → (endOf rows g ≡ startOf rows e) × (startOf rows (next g) ≡ startOf rows e)
   pub ends : (g : ℕ) → About rows e g → endOf between g ≡ endOf rows e
   pub starts : (g : ℕ) → About rows e g → startOf between (next g) ≡ endOf rows e
   pub other-ends : (g : ℕ) → Outer e p g → (About rows e g → ⊥) → endOf between g ≡ endOf rows g
   pub other-starts : (g : ℕ) → Outer e p g → (About rows e g → ⊥) → startOf between (next g) ≡ startOf rows (next g)
-  pub carried : (g : ℕ) → About rows e g → propOf between (next g) ≡ prop-by props references e p rows (next g)
+  pub props-carried : (g : ℕ) → About rows e g → propOf between (next g) ≡ prop-by props references e p rows (next g)
   pub other-props : (g : ℕ) → (About rows e g → ⊥) → propOf between (next g) ≡ propOf rows (next g)
   pub behind : rows-from H between ≡ rows-from H rows
   pub same-length : length between ≡ length rows
@@ -89,7 +89,7 @@ pub record Collapsed (H e p : ℕ) (props : Bool) (references rows between : Lis
 pub record CollapsedAway (H N e : ℕ) (props : Bool) (references rows after : List ℤ) (positions last : List ℕ) : Type 0 where
   pub between : List ℤ
   pub later : List ℕ
-  pub collapsed : Collapsed H e (partner rows e) props references rows between
+  pub collapsed : EdgeCollapsed H e (partner rows e) props references rows between
   pub lost : Lost (λ v. v ≡ start-vertex rows e) N positions later
   pub folded-rows : after ≡ fold H (move rows (partner rows e)) (begin between later N) .halfedges
   pub folded-positions : last ≡ fold H (move rows (partner rows e)) (begin between later N) .positions

@@ -9,7 +9,9 @@ use Rattle.numbers.specs.Numbers.{names, named-or, is-named}
 use Rattle.numbers.specs.Next.{next}
 use Rattle.rows.specs.Halfedges.{endOf, pairOf}
 use Rattle.steps.specs.Steps.{Middle}
-use Rattle.rings.specs.Ring.{Fixed, carried, find, Spun}
+use Rattle.rings.specs.Ring.{find}
+use Rattle.carrying.specs.Carried.{carried}
+use Rattle.spinning.specs.Spin.{Fixed, Spun}
 
 -- the rows after the prop of the half-edge behind c was carried
 abbrev pub carry : Fixed → ℕ → List ℤ → List ℤ

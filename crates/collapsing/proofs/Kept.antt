@@ -19,12 +19,15 @@ use Rattle.triangles.specs.Triangles.{collapse}
 use Rattle.triangles.proofs.Emptied.{frame-collapse}
 use Rattle.folds.specs.Folds.{lose, fold}
 use Rattle.folds.proofs.Kept.{lose-keeps, frame-fold}
-use Rattle.rings.specs.Ring.{Listing, ringed, endless, AllIn, ring, Fixed, Spun, spin}
-use Rattle.rings.proofs.Vertices.{update-same, lose-same, collapse-same, fold-same}
-use Rattle.rings.proofs.Kept.{ListingIn, ring-in, Fit, Steps, steps-same, steps-trans, fit-on, spin-keeps}
-use Rattle.collapsing.specs.declared.Tolerance.{Tolerance}
-use Rattle.collapsing.specs.Collapse.{Judgement, short, long, dead, unclosed, missing, judge, close, about, with-list, short-at, ran, by-judgement, collapse-at}
-use Rattle.collapsing.proofs.Judging.{InUseBy, in-use}
+use Rattle.rings.specs.Ring.{Listing, ringed, endless, AllIn, ring}
+use Rattle.spinning.specs.Spin.{Fixed, Spun, spin}
+use Rattle.spinning.proofs.Vertices.{update-same, lose-same, collapse-same, fold-same}
+use Rattle.rings.proofs.Listed.{ListingIn, ring-in}
+use Rattle.spinning.proofs.Kept.{Fit, Steps, steps-same, steps-trans, fit-on, spin-keeps}
+use Rattle.judging.specs.declared.Tolerance.{Tolerance}
+use Rattle.judging.specs.Judge.{Judgement, found-short, found-long, found-dead, found-open, found-missing, judge}
+use Rattle.judging.proofs.Judging.{InUseBy, in-use}
+use Rattle.collapsing.specs.Collapse.{close, about, with-list, short-at, ran, by-judgement, collapse-at}
 
 module _ {H capacity : ℕ} where
   -- the steps, one by one
@@ -90,8 +93,8 @@ module _ {H capacity : ℕ} where
       (λ r. rw r (go (judge H (m .run .vertices) (m .halfedges) (m .positions) t e) (in-use H (m .run .vertices) (m .halfedges) (m .positions) t e)))
     where
       go : (j : Judgement) → InUseBy H (m .run .vertices) j → Steps H capacity m (by-judgement H capacity props references e m j .middle)
-      go (short p v) a = ran-steps m (short-at H capacity props references v e p m) (short-steps props references v e p m f b (a .0))
-      go (long s) a = steps-same f
-      go dead a = steps-same f
-      go unclosed a = steps-same f
-      go missing a = stopped-steps m f
+      go (found-short p v) a = ran-steps m (short-at H capacity props references v e p m) (short-steps props references v e p m f b (a .0))
+      go (found-long s) a = steps-same f
+      go found-dead a = steps-same f
+      go found-open a = steps-same f
+      go found-missing a = stopped-steps m f

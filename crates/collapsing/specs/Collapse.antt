@@ -3,66 +3,22 @@
 use mathlib.Core.Bool.{Bool, true, false, cond}
 use mathlib.Core.List.{List}
 use Prim.Native.Nat.{ℕ, _≤_}
-use lib.Dec.{eqb}
-use lib.IntN.{ℤ, pos}
+use lib.IntN.{ℤ}
 use lib.ListN.{length}
-use Rattle.answers.specs.Answers.{Said}
-use Rattle.answers.specs.Answers as A
-use Rattle.numbers.specs.Numbers.{names, named-or, halfedgeNumber, vertexNumber}
+use Rattle.answers.specs.Answers.{Said, long}
+use Rattle.numbers.specs.Numbers.{named-or}
 use Rattle.numbers.specs.Next.{next}
-use Rattle.floats.specs.declared.Vec3.{Vec3}
-use Rattle.floats.specs.Vectors.{vec3OfBits}
-use Rattle.floats.specs.Short.{shortTest}
-use Rattle.rows.specs.declared.triples.Bits3.{Bits3}
-use Rattle.rows.specs.Halfedges.{startOf, endOf, pairOf, is-paired}
-use Rattle.rows.specs.Triples.{triple}
 use Rattle.steps.specs.declared.Run.{Run}
 use Rattle.steps.specs.Steps.{Middle, middle, refused, Stopped, ended}
 use Rattle.walks.specs.Walk.{onward, update}
 use Rattle.triangles.specs.Triangles.{collapse}
 use Rattle.folds.specs.Folds.{lose, fold}
-use Rattle.rings.specs.Ring.{Listing, ringed, endless, ring, Spun, spin}
-use Rattle.collapsing.specs.declared.Judged.{Judged}
-use Rattle.collapsing.specs.declared.Judged.the-variants as J
-use Rattle.collapsing.specs.declared.Tolerance.{Tolerance}
+use Rattle.rings.specs.Ring.{Listing, ringed, endless, ring}
+use Rattle.spinning.specs.Spin.{Spun, spin}
+use Rattle.judging.specs.declared.Tolerance.{Tolerance}
+use Rattle.judging.specs.Judge.{Judgement, found-short, found-long, found-dead, found-open, found-missing, judge}
 use Rattle.collapsing.specs.declared.Tried.{Tried}
 use Rattle.collapsing.specs.declared.Tried.the-variants as T
-
--- ---- the short test between the positions of vertices u and v, of which v is the end
-abbrev pub vector : Bits3 → Vec3
-vector b = vec3OfBits (b .x) (b .y) (b .z)
-
-unfoldable pub between : List ℕ → Tolerance → ℕ → ℕ → Said
-between positions t u v =
-    shortTest (vector (triple positions u)) (vector (triple positions v)) (pos v) (t .«first_new_vert») (t .tol) (t .epsilon)
-
--- ---- how an edge is judged, before anything is written: it is short, with its partner and its end; long, with what the short test says;
--- it has no pair; the fan of its start is open; or a row isn't there
-pub data Judgement : Type 0 where
-  short : ℕ → ℕ → Judgement
-  long : Said → Judgement
-  dead : Judgement
-  unclosed : Judgement
-  missing : Judgement
-
-abbrev pub judged : Judged → Judgement
-judged (J.Short p v) = short (halfedgeNumber p) (vertexNumber v)
-judged (J.Long length limit) = long (A.long length limit)
-judged J.Dead = dead
-judged J.Open = unclosed
-judged J.Missing = missing
-
-abbrev pub short-or : ℕ → ℕ → Said → Judgement
-short-or p v s = cond (eqb (s .number) 0) (short p v) (long s)
-
-unfoldable pub judge : ℕ → ℕ → List ℤ → List ℕ → Tolerance → ℕ → Judgement
-judge H N rows positions t e =
-    cond (is-paired rows e)
-    (named-or missing (names (pairOf rows e) H) (λ p.
-    named-or missing (names (startOf rows e) N) (λ u.
-    named-or missing (names (endOf rows e) N) (λ v.
-    cond (is-paired rows (next p)) (short-or p v (between positions t u v)) unclosed))))
-    dead
 
 -- ---- after the loop: the last update, the edge's triangle taken out, and what has folded there
 unfoldable pub close : ℕ → ℕ → ℕ → Spun → Middle
@@ -86,19 +42,19 @@ short-at H capacity props references v e p m =
     with-list H capacity props references v e p first m (ring H (next (next p)) (m .halfedges) H c)))
 
 -- ---- how a try comes out: the edge went; it was left alone, and why; or the steps were refused
-pub data Outcome : Type 0 where
-  went : Outcome
-  left-dead : Outcome
-  left-open : Outcome
-  left-long : Said → Outcome
-  refusal : Outcome
+pub data HowTried : Type 0 where
+  went : HowTried
+  left-dead : HowTried
+  left-open : HowTried
+  left-long : Said → HowTried
+  refusal : HowTried
 
 pub record Trial : Type 0 where
-  pub outcome : Outcome
+  pub how-tried : HowTried
   pub middle : Middle
 
-abbrev pub trial : Outcome → Middle → Trial
-trial o m = record { outcome = o; middle = m }
+abbrev pub trial : HowTried → Middle → Trial
+trial o m = record { how-tried = o; middle = m }
 
 -- what the code's try says, with the half-edge rows and positions that it leaves; an edge left alone leaves the run as it was
 abbrev pub tried : Tried → Run → List ℤ → List ℕ → Trial
@@ -106,7 +62,7 @@ tried (T.Went r) run h p = trial went (middle h p r)
 tried (T.Refused r) run h p = trial refusal (middle h p r)
 tried T.Dead run h p = trial left-dead (middle h p run)
 tried T.Open run h p = trial left-open (middle h p run)
-tried (T.Long length limit) run h p = trial (left-long (A.long length limit)) (middle h p run)
+tried (T.Long length limit) run h p = trial (left-long (long length limit)) (middle h p run)
 
 -- the vertices in use are within a capacity
 abbrev pub TriedWithin : ℕ → Run → Tried → Type 0
@@ -121,11 +77,11 @@ abbrev pub ran : Middle → Trial
 ran m = cond (refused m) (trial refusal m) (trial went m)
 
 abbrev pub by-judgement : ℕ → ℕ → Bool → List ℤ → ℕ → Middle → Judgement → Trial
-by-judgement H capacity props references e m (short p v) = ran (short-at H capacity props references v e p m)
-by-judgement H capacity props references e m (long s) = trial (left-long s) m
-by-judgement H capacity props references e m dead = trial left-dead m
-by-judgement H capacity props references e m unclosed = trial left-open m
-by-judgement H capacity props references e m missing = trial refusal (ended Stopped m)
+by-judgement H capacity props references e m (found-short p v) = ran (short-at H capacity props references v e p m)
+by-judgement H capacity props references e m (found-long s) = trial (left-long s) m
+by-judgement H capacity props references e m found-dead = trial left-dead m
+by-judgement H capacity props references e m found-open = trial left-open m
+by-judgement H capacity props references e m found-missing = trial refusal (ended Stopped m)
 
 unfoldable pub collapse-at : ℕ → ℕ → Bool → List ℤ → Tolerance → ℕ → Middle → Trial
 collapse-at H capacity props references t e m =

@@ -7,41 +7,23 @@ ghost use Prim.Native.Nat.{ℕ, _*_, _<_, _≤_, _^_};
 ghost use lib.IntN.{ℤ};
 ghost use lib.ListN.{length, drop};
 ghost use Rattle.numbers.specs.Numbers.{halfedgeNumber, vertexNumber};
+ghost use Rattle.numbers.specs.Next.{next};
 ghost use Rattle.rows.specs.Halfedges.{lent-halfedges};
-ghost use Rattle.rows.specs.Triples.{lent-triples, triple};
-ghost use Rattle.floats.specs.Short.{lengthSaid};
+ghost use Rattle.rows.specs.Triples.{lent-triples};
 ghost use Rattle.steps.specs.declared.Run.{Run};
 ghost use Rattle.steps.specs.Steps.{middle, InUse, VerticesIn};
-ghost use Rattle.numbers.specs.Next.{next};
-ghost use Rattle.rings.specs.Ring.{ring, Around, spun-to};
-ghost use Rattle.collapsing.specs.Collapse.{vector, between, judged, judge, close, about, with-list, short-at, tried, TriedWithin, ran, collapse-at};
-use floats::Length;
-use floats::Vec3;
+ghost use Rattle.rings.specs.Ring.{ring};
+ghost use Rattle.spinning.specs.Spin.{Around, spun-to};
+ghost use Rattle.collapsing.specs.Collapse.{close, about, with-list, short-at, tried, TriedWithin, ran, collapse-at};
+use judging::Judged;
+use judging::Tolerance;
 use numbers::Halfedge;
 use numbers::NamedHalfedge;
-use numbers::NamedVertex;
 use numbers::Vertex;
-use rings::Ends;
-use rings::Last;
 use rings::Ring;
+use spinning::Ends;
+use spinning::Last;
 use steps::Run;
-
-// What short means: an edge that ends before first_new_vert is held against tol, another against epsilon.
-pub struct Tolerance {
-    pub first_new_vert: i32,
-    pub tol: f64,
-    pub epsilon: f64,
-}
-
-// How an edge is judged: it is short, with its partner and its end; long, with squared length and limit; it has no pair; the fan of its
-// start is open; or a row isn't there.
-pub enum Judged {
-    Short(Halfedge, Vertex),
-    Long(f64, f64),
-    Dead,
-    Open,
-    Missing,
-}
 
 // How a try comes out: the edge went; the steps were refused; or it was left alone, since it has no pair, since the fan of its start is
 // open, or since it is long.
@@ -51,60 +33,6 @@ pub enum Tried {
     Dead,
     Open,
     Long(f64, f64),
-}
-
-// The position of v as a vector.
-fn place(positions: &[u64], v: Vertex) -> Vec3
-    requires { ⌜ vertexNumber v < lent-triples (now positions) ⌝ }
-    ensures { λ r. ⌜ r ≡ vector (triple (now (positions .entry)) (vertexNumber v)) ⌝ }
-{
-    let b = rows::triples::position_of(positions, v);
-    Vec3::of_bits(b.x, b.y, b.z)
-}
-
-// The short test between the positions of u and v, of which v is the end.
-fn between(positions: &[u64], tolerance: Tolerance, u: Vertex, v: Vertex) -> Length
-    requires { ⌜ (vertexNumber u < lent-triples (now positions)) × ((vertexNumber v < lent-triples (now positions)) × (vertexNumber v < 2 ^ 31)) ⌝ }
-    ensures { λ r. ⌜ lengthSaid r ≡ between (now (positions .entry)) tolerance (vertexNumber u) (vertexNumber v) ⌝ }
-{
-    let from = place(positions, u);
-    let to = place(positions, v);
-    let end = v.number() as i32;
-    let first = tolerance.first_new_vert;
-    floats::short_test(from, to, end, first, tolerance.tol, tolerance.epsilon)
-}
-
-// Judges the edge, before anything is written.
-pub fn judge(
-    rows: &[i32],
-    positions: &[u64],
-    halfedges: usize,
-    vertices: usize,
-    tolerance: Tolerance,
-    e: Halfedge,
-) -> Judged
-    requires { ⌜ (halfedgeNumber e < halfedges) × (InUse halfedges (now rows) × VerticesIn vertices (now positions)) ⌝ }
-    ensures { λ r. ⌜ judged r ≡ judge halfedges vertices (now (rows .entry)) (now (positions .entry)) tolerance (halfedgeNumber e) ⌝ }
-{
-    if !rows::corners::paired(rows, e.number()) {
-        return Judged::Dead;
-    }
-    let NamedHalfedge::At(p) = rows::halfedges::pair_of(rows, e, halfedges) else {
-        return Judged::Missing;
-    };
-    let NamedVertex::At(u) = rows::halfedges::start_of(rows, e, vertices) else {
-        return Judged::Missing;
-    };
-    let NamedVertex::At(v) = rows::halfedges::end_of(rows, e, vertices) else {
-        return Judged::Missing;
-    };
-    if !rows::corners::paired(rows, p.next().number()) {
-        return Judged::Open;
-    }
-    match between(positions, tolerance, u, v) {
-        Length::Short => Judged::Short(p, v),
-        Length::Long(length, limit) => Judged::Long(length, limit),
-    }
 }
 
 // After the loop: the last update, the edge's triangle taken out, and what has folded there.
@@ -146,7 +74,7 @@ fn about(
     let halfedges = ends.halfedges;
     let lost = folds::lose_step(rows, positions, run, e);
     let taken = triangles::collapse_step(rows, halfedges, lost, p);
-    let last = rings::spin(rows, positions, references, list, ends, taken, first);
+    let last = spinning::spin(rows, positions, references, list, ends, taken, first);
     close(rows, positions, halfedges, last, v, e)
 }
 
@@ -198,7 +126,7 @@ fn short_step(
 }
 
 // The steps ran: the edge went, or they were refused.
-fn outcome(run: Run) -> Tried
+fn ran(run: Run) -> Tried
     ensures { λ r. ⌜ ((w : Run) (h : List ℤ) (p : List ℕ) → tried r w h p ≡ ran (middle h p run)) × ((capacity : ℕ) (w : Run) → run .vertices ≤ capacity → TriedWithin capacity w r) ⌝ }
 {
     if steps::refused(run) {
@@ -226,7 +154,7 @@ pub fn collapse_step(
     if steps::refused(run) {
         return Tried::Refused(run);
     }
-    match judge(rows, positions, halfedges, run.vertices, tolerance, e) {
+    match judging::judge(rows, positions, halfedges, run.vertices, tolerance, e) {
         Judged::Short(p, v) => {
             let ends = Ends {
                 halfedges: halfedges,
@@ -236,7 +164,7 @@ pub fn collapse_step(
                 partner: p,
             };
             let r = short_step(rows, positions, references, list, ends, run, v);
-            outcome(r)
+            ran(r)
         }
         Judged::Long(length, limit) => Tried::Long(length, limit),
         Judged::Dead => Tried::Dead,

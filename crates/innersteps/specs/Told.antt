@@ -15,8 +15,8 @@ use Rattle.triangles.specs.Triangles.{collapse}
 use Rattle.walks.specs.Walk.{update}
 use Rattle.folds.specs.Folds.{fold}
 use Rattle.loops.specs.Loops.{loop-at}
-use Rattle.collapsing.specs.declared.Tolerance.{Tolerance}
-use Rattle.collapsing.specs.Collapse.{Outcome, went, left-dead, left-open, left-long, refusal, Trial, collapse-at}
+use Rattle.judging.specs.declared.Tolerance.{Tolerance}
+use Rattle.collapsing.specs.Collapse.{HowTried, went, left-dead, left-open, left-long, refusal, Trial, collapse-at}
 use Rattle.collapse.specs.CollapseEdge.{carries-props}
 use Rattle.innersteps.specs.declared.Used.{Used}
 use Rattle.innersteps.specs.declared.StepAnswer.{StepAnswer}
@@ -82,15 +82,15 @@ loopStep c n first second =
     (both-kept n 1)
 
 -- how a try came out: by how the steps ended, or 5, 9 or 8 where the edge was left alone
-abbrev pub outcome-told : Outcome → Run → StepAnswer
-outcome-told went r = run-told r
-outcome-told refusal r = run-told r
-outcome-told left-dead r = record { number = 5; vertices = r .vertices }
-outcome-told left-open r = record { number = 9; vertices = r .vertices }
-outcome-told (left-long s) r = record { number = 8; vertices = r .vertices }
+abbrev pub how-tried-told : HowTried → Run → StepAnswer
+how-tried-told went r = run-told r
+how-tried-told refusal r = run-told r
+how-tried-told left-dead r = record { number = 5; vertices = r .vertices }
+how-tried-told left-open r = record { number = 9; vertices = r .vertices }
+how-tried-told (left-long s) r = record { number = 8; vertices = r .vertices }
 
 abbrev pub trial-left : Trial → StepAnswer × (List ℤ × List ℕ)
-trial-left t = (outcome-told (t .outcome) (t .middle .run), (t .middle .halfedges, t .middle .positions))
+trial-left t = (how-tried-told (t .how-tried) (t .middle .run), (t .middle .halfedges, t .middle .positions))
 
 unfoldable pub tryStep : Counts → Net → ℕ → ℤ → Tolerance → StepAnswer × (List ℤ × List ℕ)
 tryStep c n room halfedge t =

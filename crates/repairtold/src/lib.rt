@@ -4,7 +4,7 @@ ghost use mathlib.Core.Path.{_≡_};
 ghost use Rattle.dedupe.specs.DedupeEdge.{dedupeSaid};
 ghost use Rattle.rounds.specs.DedupeEdges.{edgesSaid};
 ghost use Rattle.cleanup.specs.Cleanup.{cleanupSaid};
-ghost use Rattle.collapse.specs.CollapseEdge.{collapseSaid};
+ghost use Rattle.collapse.specs.CollapseEdge.{collapseEdgeSaid};
 ghost use Rattle.repairtold.specs.Told.{edge-told, edge-refused, edges-told, edges-refused, cleanup-told, cleanup-refused, collapse-told, collapse-refused};
 use cleanup::CleanupTopology;
 use collapse::CollapseEdge;
@@ -163,7 +163,7 @@ fn collapse_refused(number: u32) -> CollapseEdgeAnswer
 }
 
 pub fn of_collapse(said: CollapseEdge) -> CollapseEdgeAnswer
-    ensures { λ r. ⌜ r ≡ collapse-told (collapseSaid said) ⌝ }
+    ensures { λ r. ⌜ r ≡ collapse-told (collapseEdgeSaid said) ⌝ }
 {
     match said {
         CollapseEdge::Done(vertices) => CollapseEdgeAnswer {

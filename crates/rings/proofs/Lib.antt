@@ -1,3 +1,1 @@
-pub mod Turns
-pub mod Vertices
-pub mod Kept
+pub mod Listed

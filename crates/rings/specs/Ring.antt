@@ -1,28 +1,18 @@
--- What a collapse reads and loops over. e is the edge that goes and p its partner. The neighbours of the kept vertex are listed; then the
--- loop goes about the start of e, and a neighbour that is listed already forms a loop and cuts the list to its place.
-use mathlib.Core.Bool.{Bool, true, cond}
+-- The ring of a vertex that a collapse keeps: its neighbours, listed, and the first of them that ends at a given vertex.
+use mathlib.Core.Bool.{cond}
 use mathlib.Core.List.{List, [], _∷_}
-use mathlib.Core.Path.{_≡_}
-use Prim.Native.Nat.{ℕ, zero, suc, _+_, _*_, _/_, _%_, _<_, _≤_}
+use Prim.Native.Nat.{ℕ, zero, suc, _+_, _<_, _≤_}
 use lib.Dec.{eqb}
 use lib.IntN.{ℤ}
 use lib.ListN.{length, getD, take}
 use Rattle.laws.specs.Integers.{eqZ}
-use Rattle.numbers.specs.Numbers.{Named, at, nothing, names, named-or, halfedgeNumber}
-use Rattle.numbers.specs.Next.{next, most-halfedges}
-use Rattle.rows.specs.Halfedges.{prop, endOf, pairOf, propOf, set-column}
-use Rattle.rows.specs.Triples.{reference, same-face, lent-triples}
-use Rattle.net.specs.Counts.{most-vertices}
-use Rattle.steps.specs.Steps.{Middle, middle, refused, Stopped, ended, with-rows}
-use Rattle.loops.specs.Loops.{loop-at}
-use Rattle.rings.specs.declared.Ends.{Ends}
+use Rattle.numbers.specs.Numbers.{Named, at, nothing, names, named-or}
+use Rattle.numbers.specs.Next.{next}
+use Rattle.rows.specs.Halfedges.{endOf, pairOf}
 use Rattle.rings.specs.declared.Hit.{Hit}
 use Rattle.rings.specs.declared.Hit.the-variants as I
-use Rattle.rings.specs.declared.Last.{Last}
 use Rattle.rings.specs.declared.Ring.{Ring}
 use Rattle.rings.specs.declared.Ring.the-variants as R
-use Rattle.rings.specs.declared.Turn.{Turn}
-use Rattle.rings.specs.declared.Turn.the-variants as T
 
 -- ---- the neighbours of the kept vertex are listed: from c the next, then on to its partner, until `to`
 pub data Listing : Type 0 where
@@ -52,15 +42,6 @@ ring H to rows (suc n) c =
     cond (eqb c to) (ringed [])
     (listed-first (next c) (named-or (ringed []) (names (pairOf rows (next c)) H) (λ q. ring H to rows n q)))
 
--- ---- prop_vert follows the edge's face, else the partner's
-unfoldable pub carried : Bool → List ℤ → ℕ → ℕ → ℕ → List ℤ → List ℤ
-carried props references e p h rows =
-    cond props
-    (cond (same-face (reference references (h / 3)) (reference references (e / 3))) (set-column prop h (propOf rows (next e)) rows)
-    (cond (same-face (reference references (h / 3)) (reference references (p / 3))) (set-column prop h (propOf rows p) rows)
-    rows))
-    rows
-
 -- ---- the first of n entries from k on that ends where z says
 unfoldable pub find : List ℤ → ℤ → List ℕ → ℕ → ℕ → Named
 find rows z list k zero = nothing
@@ -69,85 +50,3 @@ find rows z list k (suc n) = cond (eqZ z (endOf rows (getD list k 0))) (at k) (f
 abbrev pub hit : Hit → Named
 hit (I.At k) = at k
 hit I.Nothing = nothing
-
--- ---- one turn of the loop about the start: it is out; it goes on to a half-edge; or a loop was formed, and the list is cut to k
-pub data Turned : Type 0 where
-  out : Middle → Turned
-  on : Middle → ℕ → Turned
-  formed : Middle → ℕ → ℕ → Turned
-
--- what the code's turn says, with the half-edge rows and positions that it leaves
-abbrev pub turned : Turn → List ℤ → List ℕ → Turned
-turned (T.Out r) h p = out (middle h p r)
-turned (T.On r q) h p = on (middle h p r) (halfedgeNumber q)
-turned (T.Formed r q k) h p = formed (middle h p r) (halfedgeNumber q) k
-
--- what the next turn counts on
-abbrev pub Ready : ℕ → ℕ → ℕ → Turn → Type 0
-Ready H capacity len (T.Out r) = r .vertices ≤ capacity
-Ready H capacity len (T.On r q) = (r .vertices ≤ capacity) × (halfedgeNumber q < H)
-Ready H capacity len (T.Formed r q k) = (r .vertices ≤ capacity) × ((halfedgeNumber q < H) × (k < len))
-
--- what stays the same while it turns
-pub record Fixed : Type 0 where
-  pub halfedges : ℕ
-  pub capacity : ℕ
-  pub props : Bool
-  pub references : List ℤ
-  pub edge : ℕ
-  pub partner : ℕ
-  pub list : List ℕ
-
-abbrev pub fixed : Ends → List ℤ → List ℕ → Fixed
-fixed s references list =
-    record { halfedges = s .halfedges; capacity = s .capacity; props = s .props; references = references; edge = halfedgeNumber (s .edge); partner = halfedgeNumber (s .partner); list = list }
-
--- the edge and its partner are in use, in whole triangles, with a reference each where props are carried, and so is all that is listed
-pub record Around (s : Ends) (references : List ℤ) (list : List ℕ) : Type 0 where
-  pub edge-in : halfedgeNumber (s .edge) < s .halfedges
-  pub partner-in : halfedgeNumber (s .partner) < s .halfedges
-  pub thirds : s .halfedges % 3 ≡ 0
-  pub few : s .halfedges ≤ most-halfedges
-  pub room : s .capacity ≤ most-vertices
-  pub faces : s .props ≡ true → s .halfedges ≤ 3 * lent-triples references
-  pub all-in : AllIn (s .halfedges) list
-
-unfoldable pub turn-at : ℕ → ℕ → List ℕ → ℕ → ℕ → Middle → Turned
-turn-at H capacity list len h m =
-    named-or (out m) (names (pairOf (m .halfedges) h) H) (λ q.
-    named-or (on m q) (find (m .halfedges) (endOf (m .halfedges) h) list 0 len) (λ k.
-    formed (loop-at H capacity (getD list k 0) h m) q k))
-
-unfoldable pub turn-once : Fixed → ℕ → ℕ → Middle → Turned
-turn-once s len c m =
-    cond (refused m) (out m)
-    (cond (eqb c (next (next (s .edge)))) (out m)
-    (turn-at (s .halfedges) (s .capacity) (s .list) len (next c) (with-rows (carried (s .props) (s .references) (s .edge) (s .partner) (next c) (m .halfedges)) m)))
-
--- ---- the loop, with `left` moves since the pairing last changed; what it leaves, and where the last update begins
-pub record Spun : Type 0 where
-  pub middle : Middle
-  pub start : ℕ
-
-abbrev pub spun : Middle → ℕ → Spun
-spun m c = record { middle = m; start = c }
-
--- what the code's loop says, with what it leaves
-abbrev pub spun-to : Last → List ℤ → List ℕ → Spun
-spun-to l h p = spun (middle h p (l .run)) (halfedgeNumber (l .start))
-
-abbrev pub after : ℕ → Turned → (Middle → ℕ → Spun) → (Middle → ℕ → ℕ → Spun) → Spun
-after start (out m) f g = spun m start
-after start (on m q) f g = f m q
-after start (formed m q k) f g = g m q k
-
-unfoldable pub tired : ℕ → ℕ → Middle → Middle
-tired to c m = cond (refused m) m (cond (eqb c to) m (ended Stopped m))
-
-unfoldable pub inner : (Middle → ℕ → ℕ → Spun) → Fixed → ℕ → ℕ → ℕ → ℕ → Middle → Spun
-inner anew s zero start len c m = spun (tired (next (next (s .edge))) c m) start
-inner anew s (suc n) start len c m = after start (turn-once s len c m) (λ k q. inner anew s n start len q k) anew
-
-unfoldable pub spin : ℕ → Fixed → ℕ → ℕ → ℕ → ℕ → Middle → Spun
-spin zero s left start len c m = inner (λ k q j. spun k q) s left start len c m
-spin (suc r) s left start len c m = inner (λ k q j. spin r s (s .halfedges) q j q k) s left start len c m

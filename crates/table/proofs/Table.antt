@@ -8,12 +8,14 @@ use lib.Ieee.{Float, binary64, add, sub, mul, lt, ofInt, ofBits}
 use lib.IntN.{ℤ, pos, negsuc}
 use lib.ListN.{length, drop, replicate}
 use Rattle.answers.specs.Answers.{Said, whole, float, done, bad-number, no-room, stopped, long}
-use Rattle.collapse.specs.CollapseEdge.{Left, collapseSettled, collapseNamed, collapseEdge, tolerance}
-use Rattle.collapsing.specs.Collapse.{between, judge, close, about, short-at, collapse-at}
+use Rattle.collapse.specs.CollapseEdge.{Left, collapseSettled, collapseEdgeNamed, collapseEdge, tolerance}
+use Rattle.judging.specs.Judge.{between, judge}
+use Rattle.collapsing.specs.Collapse.{close, about, short-at, collapse-at}
 use Rattle.floats.specs.declared.Vec3.{Vec3}
 use Rattle.floats.specs.Short.{shortTest, limitOf, toleranceOf}
 use Rattle.numbers.specs.Next.{next, nextZ, no-next, nextAnswer}
-use Rattle.rings.specs.Ring.{ring, inner, spin, turn-once}
+use Rattle.rings.specs.Ring.{ring}
+use Rattle.spinning.specs.Spin.{inner, spin, turn-once}
 use Rattle.rows.specs.Halfedges.{column, set-column, startOf, endOf, over-rows}
 use Rattle.rows.specs.Triples.{triple, put-triple, over-triples, zero-triples}
 use Rattle.net.specs.Counts.{is-shaped, triangle-capacity-over, vertex-capacity-over, property-capacity-over}
@@ -123,5 +125,5 @@ table =
     ∷ []
 
 pub table-holds : map (λ (k : Case). k .gives) table ≡ map (λ (k : Case). k .is) table
-unfolding collapseEdge collapseNamed collapseSettled collapse-at judge between short-at about close ring spin inner turn-once collapse collapsed emptied update over-rows over-triples removeIfFolded foldNamed fold fold-at take-out clear gone-row join outer-paired has-pair lose-folded lose paired splitPinched split-sound count-rows count-step split-rows split-step flag-walk relabel-walk walk walk-end ℕ-discrete triple put-triple zero-triples next nextZ no-next column set-column add sub mul lt ofInt ofBits is-shaped triangle-capacity-over vertex-capacity-over property-capacity-over checkNet is-live in-order first-failing updateVert updateNamed updateAt reaches walk-to onward moved
+unfolding collapseEdge collapseEdgeNamed collapseSettled collapse-at judge between short-at about close ring spin inner turn-once collapse collapsed emptied update over-rows over-triples removeIfFolded foldNamed fold fold-at take-out clear gone-row join outer-paired has-pair lose-folded lose paired splitPinched split-sound count-rows count-step split-rows split-step flag-walk relabel-walk walk walk-end ℕ-discrete triple put-triple zero-triples next nextZ no-next column set-column add sub mul lt ofInt ofBits is-shaped triangle-capacity-over vertex-capacity-over property-capacity-over checkNet is-live in-order first-failing updateVert updateNamed updateAt reaches walk-to onward moved
 table-holds = refl

@@ -48,10 +48,15 @@ same-length-6 c = search needs
 
 returns-2 : tie.Need-returns-2
 unfolding collapseEdge
-returns-2 c = let t = rw (c .before .before .spare-fits .ensures, c .before .long-enough .ensures, c .before .before .before .before .before .halfedge-capacity .ensures) at (not-true (c .before .before .spare-fits .result && c .before .long-enough .result) (c .if2 .taken)) in rw (← c .before .before .before .before .before .before .before .before .shaped .ensures, not-false (c .before .before .before .before .before .before .before .before .shaped .result) (c .before .before .before .before .before .before .before .if1 .left), t)
+returns-2 c =
+    let t = rw (c .before .before .spare-fits .ensures, c .before .long-enough .ensures, c .before .before .before .before .before .halfedge-capacity .ensures) at (not-true (c .before .before .spare-fits .result && c .before .long-enough .result) (c .if2 .taken)) in
+    rw (← c .before .before .before .before .before .before .before .before .shaped .ensures, not-false (c .before .before .before .before .before .before .before .before .shaped .result) (c .before .before .before .before .before .before .before .if1 .left), t)
 
 first-out-requires : tie.Need-first-out-requires
-first-out-requires c κs = let s = shaped-yes _ _ (sym (c .before .before .before .before .before .before .before .before .before .before .before .shaped .ensures) ∙ not-false (c .before .before .before .before .before .before .before .before .before .before .before .shaped .result) (c .before .before .before .before .before .before .before .before .before .before .if1 .left)) in let w = within _ _ s in omega (arith, w .halfedges-thirds, w .halfedges-lent, w .halfedges-most, w .vertices-most)
+first-out-requires c κs =
+    let s = shaped-yes _ _ (sym (c .before .before .before .before .before .before .before .before .before .before .before .shaped .ensures) ∙ not-false (c .before .before .before .before .before .before .before .before .before .before .before .shaped .result) (c .before .before .before .before .before .before .before .before .before .before .if1 .left)) in
+    let w = within _ _ s in
+    omega (arith, w .halfedges-thirds, w .halfedges-lent, w .halfedges-most, w .vertices-most)
 
 enum-known-h : tie.Need-enum-known-h
 enum-known-h c = search needs
@@ -60,7 +65,22 @@ enum-told : tie.Need-enum-told
 enum-told c = search needs
 
 collapse-named-requires : tie.Need-collapse-named-requires
-collapse-named-requires c κs = let a = c .before .before .before .before .before .before .before .before .before .before .before .before .before .before .before .before .before .before .before .before .before .before .before .before .before .before .before .args in let s = shaped-yes _ _ (sym (c .before .before .before .before .before .before .before .before .before .before .before .before .before .before .before .before .before .before .before .shaped .ensures) ∙ not-false (c .before .before .before .before .before .before .before .before .before .before .before .before .before .before .before .before .before .before .before .shaped .result) (c .before .before .before .before .before .before .before .before .before .before .before .before .before .before .before .before .before .before .if1 .left)) in let w = within _ _ s in let q = and2 _ _ (not-false (c .before .before .before .before .before .before .before .before .before .before .before .before .before .spare-fits .result && c .before .before .before .before .before .before .before .before .before .before .before .before .long-enough .result) (c .before .before .before .before .before .before .before .before .before .before .before .if2 .left)) in let t = and2 _ _ (sym (c .before .before .before .before .before .before .before .before .before .before .before .before .before .spare-fits .ensures) ∙ q .0) in let l = leb-true _ _ (sym (c .before .before .before .before .before .before .before .before .before .before .before .before .long-enough .ensures) ∙ q .1) in (((w .halfedges-thirds, (w .halfedges-lent, w .halfedges-most)), s .vertices-fit), ((λ u. let v = ltb-true 0 (a .counts .references) (and2 (ltb 0 (a .counts .«num_prop»)) (ltb 0 (a .counts .references)) u .1) in let k = w .references-lent (λ z. omega (arith, z, v)) in omega (arith, k, w .halfedges-thirds)), ((leb-true _ _ (t .0), leb-true _ _ (t .1)), (rw (c .before .before .before .before .before .before .before .before .before .before .before .before .before .before .before .before .halfedge-capacity .ensures) (s .halfedges-fit), l))))
+collapse-named-requires c κs =
+    let a = c .before .before .before .before .before .before .before .before .before .before .before .before .before .before .before .before .before .before .before .before .before .before .before .before .before .before .before .args .counts in
+    let s = shaped-yes _ _ (sym (c .before .before .before .before .before .before .before .before .before .before .before .before .before .before .before .before .before .before .before .shaped .ensures) ∙ not-false (c .before .before .before .before .before .before .before .before .before .before .before .before .before .before .before .before .before .before .before .shaped .result) (c .before .before .before .before .before .before .before .before .before .before .before .before .before .before .before .before .before .before .if1 .left)) in
+    let w = within _ _ s in
+    let q = and2 _ _ (not-false (c .before .before .before .before .before .before .before .before .before .before .before .before .before .spare-fits .result && c .before .before .before .before .before .before .before .before .before .before .before .before .long-enough .result) (c .before .before .before .before .before .before .before .before .before .before .before .if2 .left)) in
+    let t = and2 _ _ (sym (c .before .before .before .before .before .before .before .before .before .before .before .before .before .spare-fits .ensures) ∙ q .0) in
+    let l = leb-true _ _ (sym (c .before .before .before .before .before .before .before .before .before .before .before .before .long-enough .ensures) ∙ q .1) in (
+      ((w .halfedges-thirds, (w .halfedges-lent, w .halfedges-most)), s .vertices-fit),
+      (
+        (λ u.
+            let v = ltb-true 0 (a .references) (and2 (ltb 0 (a .«num_prop»)) (ltb 0 (a .references)) u .1) in
+            let k = w .references-lent (λ z. omega (arith, z, v)) in
+            omega (arith, k, w .halfedges-thirds)),
+        ((leb-true _ _ (t .0), leb-true _ _ (t .1)), (rw (c .before .before .before .before .before .before .before .before .before .before .before .before .before .before .before .before .halfedge-capacity .ensures) (s .halfedges-fit), l)),
+      ),
+    )
 
 same-length-7 : tie.Need-same-length-7
 same-length-7 c = search needs
@@ -76,7 +96,9 @@ same-length-10 c = search needs
 
 returns-3 : tie.Need-returns-3
 unfolding collapseEdge
-returns-3 c = let t = rw (c .before .before .before .before .before .before .before .before .before .spare-fits .ensures, c .before .before .before .before .before .before .before .before .long-enough .ensures, c .before .before .before .before .before .before .before .before .before .before .before .before .halfedge-capacity .ensures) at (not-false (c .before .before .before .before .before .before .before .before .before .spare-fits .result && c .before .before .before .before .before .before .before .before .long-enough .result) (c .before .before .before .before .before .before .before .if2 .left)) in rw (← c .before .before .before .before .before .before .before .before .before .before .before .before .before .before .before .shaped .ensures, not-false (c .before .before .before .before .before .before .before .before .before .before .before .before .before .before .before .shaped .result) (c .before .before .before .before .before .before .before .before .before .before .before .before .before .before .if1 .left), t, ← c .before .before .before .first-out .ensures, c .before .h .given .1)
+returns-3 c =
+    let t = rw (c .before .before .before .before .before .before .before .before .before .spare-fits .ensures, c .before .before .before .before .before .before .before .before .long-enough .ensures, c .before .before .before .before .before .before .before .before .before .before .before .before .halfedge-capacity .ensures) at (not-false (c .before .before .before .before .before .before .before .before .before .spare-fits .result && c .before .before .before .before .before .before .before .before .long-enough .result) (c .before .before .before .before .before .before .before .if2 .left)) in
+    rw (← c .before .before .before .before .before .before .before .before .before .before .before .before .before .before .before .shaped .ensures, not-false (c .before .before .before .before .before .before .before .before .before .before .before .before .before .before .before .shaped .result) (c .before .before .before .before .before .before .before .before .before .before .before .before .before .before .if1 .left), t, ← c .before .before .before .first-out .ensures, c .before .h .given .1)
 
 same-length-11 : tie.Need-same-length-11
 same-length-11 c = search needs
@@ -95,7 +117,13 @@ same-length-15 c = search needs
 
 returns-4 : tie.Need-returns-4
 unfolding collapseEdge
-returns-4 c = let t = rw (c .before .before .before .before .before .before .before .before .before .before .before .before .before .before .before .before .before .before .before .before .before .before .spare-fits .ensures, c .before .before .before .before .before .before .before .before .before .before .before .before .before .before .before .before .before .before .before .before .before .long-enough .ensures, c .before .before .before .before .before .before .before .before .before .before .before .before .before .before .before .before .before .before .before .before .before .before .before .before .before .halfedge-capacity .ensures) at (not-false (c .before .before .before .before .before .before .before .before .before .before .before .before .before .before .before .before .before .before .before .before .before .before .spare-fits .result && c .before .before .before .before .before .before .before .before .before .before .before .before .before .before .before .before .before .before .before .before .before .long-enough .result) (c .before .before .before .before .before .before .before .before .before .before .before .before .before .before .before .before .before .before .before .before .if2 .left)) in rw (← c .before .before .before .before .before .before .before .before .before .before .before .before .before .before .before .before .before .before .before .before .before .before .before .before .before .before .before .before .shaped .ensures, not-false (c .before .before .before .before .before .before .before .before .before .before .before .before .before .before .before .before .before .before .before .before .before .before .before .before .before .before .before .before .shaped .result) (c .before .before .before .before .before .before .before .before .before .before .before .before .before .before .before .before .before .before .before .before .before .before .before .before .before .before .before .if1 .left), t, ← c .before .before .before .before .before .before .before .before .before .before .before .before .before .before .before .before .first-out .ensures, c .before .before .before .before .before .before .before .before .before .before .before .before .before .before .enum-told .given .1) (rw (toZ-ofZ (c .before .before .before .before .before .before .before .before .before .before .before .before .before .before .before .before .before .before .before .before .before .before .before .before .before .before .before .before .before .before .before .before .before .before .before .before .fits .halfedge), toZ-ofZ (c .before .before .before .before .before .before .before .before .before .before .before .before .before .before .before .before .before .before .before .before .before .before .before .before .before .before .before .before .before .before .before .before .before .before .before .before .fits .first-new-vert), c .before .before .before .before .before .before .before .before .before .before .before .before .before .before .before .before .before .before .before .before .before .before .before .before .before .halfedge-capacity .ensures) at (c .before .before .before .before .before .before .before .before .collapse-named .ensures))
+returns-4 c =
+    let t =
+    rw (c .before .before .before .before .before .before .before .before .before .before .before .before .before .before .before .before .before .before .before .before .before .before .spare-fits .ensures, c .before .before .before .before .before .before .before .before .before .before .before .before .before .before .before .before .before .before .before .before .before .long-enough .ensures, c .before .before .before .before .before .before .before .before .before .before .before .before .before .before .before .before .before .before .before .before .before .before .before .before .before .halfedge-capacity .ensures) at
+    (not-false (c .before .before .before .before .before .before .before .before .before .before .before .before .before .before .before .before .before .before .before .before .before .before .spare-fits .result && c .before .before .before .before .before .before .before .before .before .before .before .before .before .before .before .before .before .before .before .before .before .long-enough .result) (c .before .before .before .before .before .before .before .before .before .before .before .before .before .before .before .before .before .before .before .before .if2 .left)) in
+    let named = rw (toZ-ofZ (c .before .before .before .before .before .before .before .before .before .before .before .before .before .before .before .before .before .before .before .before .before .before .before .before .before .before .before .before .before .before .before .before .before .before .before .before .fits .halfedge), toZ-ofZ (c .before .before .before .before .before .before .before .before .before .before .before .before .before .before .before .before .before .before .before .before .before .before .before .before .before .before .before .before .before .before .before .before .before .before .before .before .fits .first-new-vert), c .before .before .before .before .before .before .before .before .before .before .before .before .before .before .before .before .before .before .before .before .before .before .before .before .before .halfedge-capacity .ensures) at (c .before .before .before .before .before .before .before .before .collapse-named .ensures) in
+    let sound = c .before .before .before .before .before .before .before .before .before .before .before .before .before .before .before .before .first-out .ensures in
+    rw (← c .before .before .before .before .before .before .before .before .before .before .before .before .before .before .before .before .before .before .before .before .before .before .before .before .before .before .before .before .shaped .ensures, not-false (c .before .before .before .before .before .before .before .before .before .before .before .before .before .before .before .before .before .before .before .before .before .before .before .before .before .before .before .before .shaped .result) (c .before .before .before .before .before .before .before .before .before .before .before .before .before .before .before .before .before .before .before .before .before .before .before .before .before .before .before .if1 .left), t, ← sound, c .before .before .before .before .before .before .before .before .before .before .before .before .before .before .enum-told .given .1) named
 
 pub collapse-edge-spec : {M : Type 1} → statement M
 collapse-edge-spec =

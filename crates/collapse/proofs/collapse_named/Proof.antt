@@ -4,7 +4,7 @@ use native.Mathlib.Omega.{arith}
 use mir.Facts.{toZ-ofZ}
 use Rattle.numbers.proofs.Names.{names-below}
 use Rattle.net.proofs.Shape.{capacity-lent, capacity-most}
-use Rattle.collapse.specs.CollapseEdge.{collapseNamed}
+use Rattle.collapse.specs.CollapseEdge.{collapseEdgeNamed}
 use borrow.Author.Needs.{needs}
 use Rattle.collapse.proofs.collapse_named.Statement.{statement}
 use Rattle.collapse.proofs.collapse_named.Tie as tie
@@ -19,11 +19,15 @@ enum-told : tie.Need-enum-told
 enum-told c = search needs
 
 returns : tie.Need-returns
-unfolding collapseNamed
+unfolding collapseEdgeNamed
 returns c = rw (← (rw (toZ-ofZ (c .before .before .before .before .before .before .fits .halfedge), c .enum-told .given .1) at (c .before .before .halfedge-given .ensures)))
 
 bar-requires : tie.Need-bar-requires
-bar-requires c κs = let s = c .before .before .before .before .before .before .before .before .before .args in let p = c .before .before .before .before .before .before .before .before .before .pre in let b = names-below (s .halfedge) (s .halfedges) (sym (rw (toZ-ofZ (c .before .before .before .before .before .before .before .before .before .fits .halfedge), c .before .before .before .e .given .1) at (c .before .before .before .before .before .halfedge-given .ensures))) in (b, (p .0 .0, (omega (arith, p .0 .1, capacity-lent (s .positions .now)), omega (arith, p .0 .1, capacity-most (s .positions .now)))))
+bar-requires c κs =
+    let s = c .before .before .before .before .before .before .before .before .before .args in
+    let p = c .before .before .before .before .before .before .before .before .before .pre in
+    let b = names-below (s .halfedge) (s .halfedges) (sym (rw (toZ-ofZ (c .before .before .before .before .before .before .before .before .before .fits .halfedge), c .before .before .before .e .given .1) at (c .before .before .before .before .before .halfedge-given .ensures))) in
+    (b, (p .0 .0, (omega (arith, p .0 .1, capacity-lent (s .positions .now)), omega (arith, p .0 .1, capacity-most (s .positions .now)))))
 
 enum-told-2 : tie.Need-enum-told-2
 enum-told-2 c = search needs
@@ -38,7 +42,11 @@ vertex-capacity-requires : tie.Need-vertex-capacity-requires
 vertex-capacity-requires c κs = search needs
 
 collapse-settled-requires : tie.Need-collapse-settled-requires
-collapse-settled-requires c κs = let s = c .before .before .before .before .before .before .before .before .before .before .before .before .before .before .before .before .before .before .before .args in let p = c .before .before .before .before .before .before .before .before .before .before .before .before .before .before .before .before .before .before .before .pre in let b = names-below (s .halfedge) (s .halfedges) (sym (rw (toZ-ofZ (c .before .before .before .before .before .before .before .before .before .before .before .before .before .before .before .before .before .before .before .fits .halfedge), c .before .before .before .before .before .before .before .before .before .before .before .before .before .e .given .1) at (c .before .before .before .before .before .before .before .before .before .before .before .before .before .before .before .halfedge-given .ensures))) in rw (c .before .before .before .before .before .vertex-capacity .ensures) ((b, p .0 .0), ((p .0 .1, (capacity-lent (s .positions .now), capacity-most (s .positions .now))), p .1))
+collapse-settled-requires c κs =
+    let s = c .before .before .before .before .before .before .before .before .before .before .before .before .before .before .before .before .before .before .before .args in
+    let p = c .before .before .before .before .before .before .before .before .before .before .before .before .before .before .before .before .before .before .before .pre in
+    let b = names-below (s .halfedge) (s .halfedges) (sym (rw (toZ-ofZ (c .before .before .before .before .before .before .before .before .before .before .before .before .before .before .before .before .before .before .before .fits .halfedge), c .before .before .before .before .before .before .before .before .before .before .before .before .before .e .given .1) at (c .before .before .before .before .before .before .before .before .before .before .before .before .before .before .before .halfedge-given .ensures))) in
+    rw (c .before .before .before .before .before .vertex-capacity .ensures) ((b, p .0 .0), ((p .0 .1, (capacity-lent (s .positions .now), capacity-most (s .positions .now))), p .1))
 
 same-length : tie.Need-same-length
 same-length c = search needs
@@ -47,8 +55,10 @@ same-length-2 : tie.Need-same-length-2
 same-length-2 c = search needs
 
 returns-2 : tie.Need-returns-2
-unfolding collapseNamed
-returns-2 c = rw (← (rw (toZ-ofZ (c .before .before .before .before .before .before .before .before .before .before .before .before .fits .halfedge), c .before .before .before .before .before .before .e .given .1) at (c .before .before .before .before .before .before .before .before .halfedge-given .ensures)), ← (rw (c .enum-told2 .given .1) at (c .before .before .bar .ensures)))
+unfolding collapseEdgeNamed
+returns-2 c =
+    let e = rw (toZ-ofZ (c .before .before .before .before .before .before .before .before .before .before .before .before .fits .halfedge), c .before .before .before .before .before .before .e .given .1) at (c .before .before .before .before .before .before .before .before .halfedge-given .ensures) in
+    rw (← e, ← (rw (c .enum-told2 .given .1) at (c .before .before .bar .ensures)))
 
 same-length-3 : tie.Need-same-length-3
 same-length-3 c = search needs
@@ -57,8 +67,10 @@ same-length-4 : tie.Need-same-length-4
 same-length-4 c = search needs
 
 returns-3 : tie.Need-returns-3
-unfolding collapseNamed
-returns-3 c = rw (← (rw (toZ-ofZ (c .before .before .before .before .before .before .before .before .before .before .before .before .before .fits .halfedge), c .before .before .before .before .before .before .before .e .given .1) at (c .before .before .before .before .before .before .before .before .before .halfedge-given .ensures)), ← (rw (c .before .length .given .1) at (c .before .before .before .bar .ensures)))
+unfolding collapseEdgeNamed
+returns-3 c =
+    let e = rw (toZ-ofZ (c .before .before .before .before .before .before .before .before .before .before .before .before .before .fits .halfedge), c .before .before .before .before .before .before .before .e .given .1) at (c .before .before .before .before .before .before .before .before .before .halfedge-given .ensures) in
+    rw (← e, ← (rw (c .before .length .given .1) at (c .before .before .before .bar .ensures)))
 
 same-length-5 : tie.Need-same-length-5
 same-length-5 c = search needs
@@ -76,8 +88,11 @@ same-length-9 : tie.Need-same-length-9
 same-length-9 c = search needs
 
 returns-4 : tie.Need-returns-4
-unfolding collapseNamed
-returns-4 c = rw (← (rw (toZ-ofZ (c .before .before .before .before .before .before .before .before .before .before .before .before .before .before .before .before .before .before .before .before .before .before .before .before .before .before .before .before .fits .halfedge), c .before .before .before .before .before .before .before .before .before .before .before .before .before .before .before .before .before .before .before .before .before .before .e .given .1) at (c .before .before .before .before .before .before .before .before .before .before .before .before .before .before .before .before .before .before .before .before .before .before .before .before .halfedge-given .ensures)), ← (rw (c .before .before .before .before .before .before .before .before .before .before .before .before .before .before .before .before .enum-told3 .given .1) at (c .before .before .before .before .before .before .before .before .before .before .before .before .before .before .before .before .before .before .bar .ensures))) (rw (c .before .before .before .before .before .before .before .before .before .before .before .before .before .before .vertex-capacity .ensures) at (c .before .before .before .before .before .before .before .before .collapse-settled .ensures))
+unfolding collapseEdgeNamed
+returns-4 c =
+    let e = rw (toZ-ofZ (c .before .before .before .before .before .before .before .before .before .before .before .before .before .before .before .before .before .before .before .before .before .before .before .before .before .before .before .before .fits .halfedge), c .before .before .before .before .before .before .before .before .before .before .before .before .before .before .before .before .before .before .before .before .before .before .e .given .1) at (c .before .before .before .before .before .before .before .before .before .before .before .before .before .before .before .before .before .before .before .before .before .before .before .before .halfedge-given .ensures) in
+    let free = rw (c .before .before .before .before .before .before .before .before .before .before .before .before .before .before .before .before .enum-told3 .given .1) at (c .before .before .before .before .before .before .before .before .before .before .before .before .before .before .before .before .before .before .bar .ensures) in
+    rw (← e, ← free) (rw (c .before .before .before .before .before .before .before .before .before .before .before .before .before .before .vertex-capacity .ensures) at (c .before .before .before .before .before .before .before .before .collapse-settled .ensures))
 
 pub collapse-named-spec : {M : Type 1} → statement M
 collapse-named-spec =

@@ -3,9 +3,10 @@ use mathlib.Core.Path.{refl, sym, _∙_}
 use native.Mathlib.Omega.{arith}
 use mathlib.Core.List.{[]}
 use Prim.Native.Nat.{_<_, _^_}
-use Rattle.rings.specs.Ring.{Around}
-use Rattle.collapsing.specs.Collapse.{judge, collapse-at}
-use Rattle.collapsing.proofs.Judging.{short-partner, short-end}
+use Rattle.spinning.specs.Spin.{Around}
+use Rattle.judging.specs.Judge.{judge}
+use Rattle.judging.proofs.Judging.{short-partner, short-end}
+use Rattle.collapsing.specs.Collapse.{collapse-at}
 use borrow.Author.Needs.{needs}
 use Rattle.collapsing.proofs.collapse_step.Statement.{statement}
 use Rattle.collapsing.proofs.collapse_step.Tie as tie
@@ -24,10 +25,26 @@ enum-known-p : tie.Need-enum-known-p
 enum-known-p c = search needs
 
 short-step-requires : tie.Need-short-step-requires
-short-step-requires c κs = let s = c .before .before .before .before .before .before .before .before .before .before .before .before .before .args in let p = c .before .before .before .before .before .before .before .before .before .before .before .before .before .pre in let j = sym (rw (c .before .before .before .before .p .given .1) at (c .before .before .before .before .before .before .judge .ensures)) in let q = short-partner (s .halfedges) (s .run .vertices) (s .rows .now) (s .positions .now) (s .tolerance) (s .e .0) j in let v = short-end (s .halfedges) (s .run .vertices) (s .rows .now) (s .positions .now) (s .tolerance) (s .e .0) j in (record { edge-in = p .0 .0; partner-in = q; thirds = p .0 .1 .0; few = p .0 .1 .1 .1; room = p .1 .0 .1 .1; faces = p .1 .1 .0; all-in = λ k i. absurd (omega arith) }, ((p .0 .1 .1 .0, p .1 .0 .1 .0), (p .1 .0 .0, (omega (arith, v, p .1 .0 .0, p .1 .0 .1 .1), p .1 .1 .1))))
+short-step-requires c κs =
+    let s = c .before .before .before .before .before .before .before .before .before .before .before .before .before .args in
+    let p = c .before .before .before .before .before .before .before .before .before .before .before .before .before .pre in
+    let j = sym (rw (c .before .before .before .before .p .given .1) at (c .before .before .before .before .before .before .judge .ensures)) in
+    let q = short-partner (s .halfedges) (s .run .vertices) (s .rows .now) (s .positions .now) (s .tolerance) (s .e .0) j in
+    let v = short-end (s .halfedges) (s .run .vertices) (s .rows .now) (s .positions .now) (s .tolerance) (s .e .0) j in (
+      record {
+        edge-in = p .0 .0;
+        partner-in = q;
+        thirds = p .0 .1 .0;
+        few = p .0 .1 .1 .1;
+        room = p .1 .0 .1 .1;
+        faces = p .1 .1 .0;
+        all-in = λ k i. absurd (omega arith);
+      },
+      ((p .0 .1 .1 .0, p .1 .0 .1 .0), (p .1 .0 .0, (omega (arith, v, p .1 .0 .0, p .1 .0 .1 .1), p .1 .1 .1))),
+    )
 
-outcome-requires : tie.Need-outcome-requires
-outcome-requires c κs = search needs
+ran-requires : tie.Need-ran-requires
+ran-requires c κs = search needs
 
 enum-known-length : tie.Need-enum-known-length
 enum-known-length c = search needs
@@ -55,7 +72,11 @@ same-length-3 c = search needs
 
 returns-2 : tie.Need-returns-2
 unfolding collapse-at
-returns-2 c = (rw (← c .before .before .before .before .before .before .before .before .before .before .before .before .before .before .before .before .before .refused .ensures, c .before .before .before .before .before .before .before .before .before .before .before .before .before .before .before .before .if1 .left, ← (rw (c .before .before .before .before .before .before .before .before .before .before .before .p .given .1) at (c .before .before .before .before .before .before .before .before .before .before .before .before .before .judge .ensures)), ← c .before .before .before .before .before .before .short-step .ensures .0) (c .outcome .ensures .0 (c .before .before .before .before .before .before .before .before .before .before .before .before .before .before .before .before .before .before .before .before .args .run) _ _), (c .outcome .ensures .1 _ (c .before .before .before .before .before .before .before .before .before .before .before .before .before .before .before .before .before .before .before .before .args .run) (c .before .before .before .before .before .before .short-step .ensures .1 .0), c .before .before .before .before .before .before .short-step .ensures .1 .1))
+returns-2 c =
+    let went = c .before .before .before .before .before .before .short-step .ensures in
+    let judged = rw (c .before .before .before .before .before .before .before .before .before .before .before .p .given .1) at (c .before .before .before .before .before .before .before .before .before .before .before .before .before .judge .ensures) in
+    let run = c .before .before .before .before .before .before .before .before .before .before .before .before .before .before .before .before .before .before .before .before .args .run in
+    (rw (← c .before .before .before .before .before .before .before .before .before .before .before .before .before .before .before .before .before .refused .ensures, c .before .before .before .before .before .before .before .before .before .before .before .before .before .before .before .before .if1 .left, ← judged, ← went .0) (c .ran .ensures .0 run _ _), (c .ran .ensures .1 _ run (went .1 .0), went .1 .1))
 
 same-length-4 : tie.Need-same-length-4
 same-length-4 c = search needs
@@ -106,7 +127,7 @@ collapse-step-spec =
     judge-requires
     enum-known-p
     short-step-requires
-    outcome-requires
+    ran-requires
     enum-known-length
     enum-told
     enum-told-2

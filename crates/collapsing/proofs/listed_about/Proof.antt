@@ -4,7 +4,8 @@ use mathlib.Core.List.{List}
 use native.Mathlib.Omega.{arith}
 use lib.Seq.{length-take-le}
 use Rattle.numbers.proofs.NextLaws.{next-in}
-use Rattle.rings.specs.Ring.{Around, AllIn}
+use Rattle.rings.specs.Ring.{AllIn}
+use Rattle.spinning.specs.Spin.{Around}
 use borrow.Author.Needs.{needs}
 use Rattle.collapsing.proofs.listed_about.Statement.{statement}
 use Rattle.collapsing.proofs.listed_about.Tie as tie

@@ -6,7 +6,7 @@ use native.Mathlib.Omega.{arith}
 use Rattle.numbers.specs.Numbers.{halfedgeNumber}
 use Rattle.rows.specs.Halfedges.{endOf}
 use Rattle.rings.specs.Ring.{find}
-use Rattle.rings.proofs.Turns.{find-hit, find-on, find-none}
+use Rattle.rings.proofs.Listed.{find-hit, find-on, find-none}
 use borrow.Author.Needs.{needs}
 use Rattle.rings.proofs.find.Statement.{statement}
 use Rattle.rings.proofs.find.Tie as tie

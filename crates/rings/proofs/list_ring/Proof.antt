@@ -5,7 +5,7 @@ use lib.ListN.{length-set}
 use native.Mathlib.Omega.{arith}
 use Rattle.numbers.specs.Numbers.{halfedgeNumber, halfedgeNamed}
 use Rattle.numbers.proofs.NextLaws.{next-in}
-use Rattle.rings.proofs.Turns.{Lists, lists-begin, lists-home, lists-tired, lists-off, lists-on, lists-beyond}
+use Rattle.rings.proofs.Listed.{Lists, lists-begin, lists-home, lists-tired, lists-off, lists-on, lists-beyond}
 use borrow.Author.Needs.{needs}
 use Rattle.rings.proofs.list_ring.Statement.{statement}
 use Rattle.rings.proofs.list_ring.Tie as tie
