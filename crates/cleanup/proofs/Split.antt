@@ -81,7 +81,7 @@ module _ (l : Limits) (H N : ℕ) (rows : List ℤ) (positions normals : List �
     pub work-is : o .work ≡ cleared (H + N) work
     pub list-free : drop H (o .visit) ≡ drop H list
 
-  lent-same : {x : Growing} → Grows l before x → x .count ≡ H → x .middle .run .vertices ≤ l .vertices → Fitting l x
+  lent-same : {x : Growing} → Grows l before x → x .used ≡ H → x .middle .run .vertices ≤ l .vertices → Fitting l x
   lent-same g c v = record {
     rows-fit = record {
       thirds = rw c (f .rows-fit .thirds);
@@ -108,7 +108,7 @@ module _ (l : Limits) (H N : ℕ) (rows : List ℤ) (positions normals : List �
       go (inl (added, steps, (d, k))) =
           let u : after .middle .run .vertices ≡ N + added = rw (d .said) refl in
           let g : Grows l before after = record {
-            count-grows = le-refl _;
+            halfedges-grow = le-refl _;
             rows-free = k .rows-free;
             rows-lent = k .rows-lent;
             vertices-grow = omega (arith, u);
@@ -126,7 +126,7 @@ module _ (l : Limits) (H N : ℕ) (rows : List ℤ) (positions normals : List �
           let u : after .middle .run .vertices ≡ l .vertices = rw (z .said) refl in
           let e : o .positions ≡ zero-triples N (l .vertices) positions = z .positions-are ∙ ap (λ (k : ℕ). zero-triples N k positions) (sym capacity) in
           let g : Grows l before after = record {
-            count-grows = le-refl _;
+            halfedges-grow = le-refl _;
             rows-free = rw (z .halfedges-are) refl;
             rows-lent = ap length (z .halfedges-are);
             vertices-grow = omega (arith, u, f .vertices-fit .within-vertices);

@@ -25,8 +25,8 @@ use Rattle.growth.specs.declared.Limits.{Limits}
 use Rattle.growth.specs.Growth.{Growing, halted}
 use Rattle.settling.specs.Settling.{limits-of}
 use Rattle.rounds.specs.Rounds.{rounds}
-use Rattle.rounds.specs.DedupeEdges.{Left, left, lent-enough}
-use Rattle.rounds.proofs.Told.{same-left}
+use Rattle.dedupeedges.specs.DedupeEdges.{Left, left, lent-enough}
+use Rattle.dedupeedges.proofs.Told.{same-left}
 use Rattle.cleanup.specs.declared.CleanupTopology.{CleanupTopology}
 use Rattle.cleanup.specs.declared.CleanupTopology.the-variants as C
 use Rattle.cleanup.specs.Cleanup.{cleanupSaid, after-split, cleanAt, cleanupTopology}
@@ -40,10 +40,10 @@ module _ (l : Limits) (H N : ℕ) (rows : List ℤ) (positions normals : List �
   after = cleanAt l H N rows positions normals references spare-halfedges spare-positions work list
 
   pub cleanup-refused : halted steps ≡ true →
-      (after .halfedges ≡ zero-rows H (steps .count) rows)
+      (after .halfedges ≡ zero-rows H (steps .used) rows)
       × ((after .positions ≡ zero-triples N (steps .middle .run .vertices) positions)
-      × ((after .normals ≡ cond (l .normals) (zero-triples (H / 3) (steps .count / 3) normals) normals)
-      × (after .references ≡ cond (l .references) (zero-references (H / 3) (steps .count / 3) references) references)))
+      × ((after .normals ≡ cond (l .normals) (zero-triples (H / 3) (steps .used / 3) normals) normals)
+      × (after .references ≡ cond (l .references) (zero-references (H / 3) (steps .used / 3) references) references)))
   unfolding cleanAt
   cleanup-refused t = (rw t, (rw t, (rw t, rw t)))
 

@@ -23,7 +23,7 @@ use Rattle.growth.specs.declared.Limits.{Limits}
 use Rattle.growth.specs.Growth.{Growing, growing, settled}
 use Rattle.settling.specs.Settling.{limits-of}
 use Rattle.rounds.specs.Rounds.{rounds}
-use Rattle.rounds.specs.DedupeEdges.{Left, left-by, as-lent, lent-enough}
+use Rattle.dedupeedges.specs.DedupeEdges.{Left, left-by, as-lent, lent-enough}
 use Rattle.cleanup.specs.declared.CleanupTopology.{CleanupTopology}
 use Rattle.cleanup.specs.declared.CleanupTopology.the-variants as C
 

@@ -8,7 +8,7 @@ ghost use Rattle.splitting.specs.inner.Needs.{SoundRows};
 ghost use Rattle.splitcleared.specs.Answer.{splitSaid};
 ghost use Rattle.growth.specs.Growth.{Fitting};
 ghost use Rattle.settling.specs.Settling.{begun, grownSaid};
-ghost use Rattle.rounds.specs.DedupeEdges.{left, Enough};
+ghost use Rattle.dedupeedges.specs.DedupeEdges.{left, Enough};
 ghost use Rattle.cleanup.specs.Cleanup.{cleanupSaid, split-run, cleanAt, cleanupTopology};
 use growth::Grown;
 use growth::Limits;
@@ -83,7 +83,7 @@ fn clean_at(
         halfedges: halfedges,
         run: after_split(said, vertices, limits.vertices),
     };
-    let grown = rounds::entry::rounds_settled(
+    let grown = dedupeedges::rounds_settled(
         rows,
         positions,
         normals,
@@ -128,7 +128,7 @@ pub fn cleanup_topology(
     }
     let limits = settling::limits_of(counts, halfedges, positions, normals, references);
     let capacity = limits.halfedges;
-    if !rounds::entry::enough(
+    if !dedupeedges::enough(
         counts,
         spare_halfedges,
         spare_positions,

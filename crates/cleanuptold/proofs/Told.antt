@@ -30,7 +30,7 @@ use Rattle.settling.specs.Settling.{limits-of}
 use Rattle.settling.proofs.Kept.{Grew, grew-trans}
 use Rattle.settling.proofs.Entry.{begun-fits}
 use Rattle.rounds.specs.Rounds.{rounds}
-use Rattle.rounds.specs.DedupeEdges.{Left, as-lent}
+use Rattle.dedupeedges.specs.DedupeEdges.{Left, as-lent}
 use Rattle.rounds.proofs.Grown.{rounds-grew}
 use Rattle.cleanup.specs.Cleanup.{split-run, after-split, cleanAt, cleanupTopology}
 use Rattle.cleanup.proofs.Split.{splits}

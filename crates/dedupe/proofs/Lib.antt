@@ -1,5 +1,2 @@
-pub mod Places
 pub mod Grown
-pub mod Told
-pub mod Settled
 pub mod Cases

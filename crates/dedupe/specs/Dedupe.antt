@@ -31,18 +31,18 @@ at-second l v w missing = halt w
 unfoldable pub second : Limits → ℕ → ℕ → Growing → Growing
 second l v e w =
     cond (halted w) w
-    (named-or (halt w) (names (pairOf (rows-of w) e) (w .count)) (λ p.
-    named-or (halt w) (onward (w .count) (rows-of w) p) (λ c.
-    at-second l v w (seek (w .count) v p (rows-of w) (w .count) c))))
+    (named-or (halt w) (names (pairOf (rows-of w) e) (w .used)) (λ p.
+    named-or (halt w) (onward (w .used) (rows-of w) p) (λ c.
+    at-second l v w (seek (w .used) v p (rows-of w) (w .used) c))))
 
 -- both searches, where the edge has start and end, and leads on to c
 abbrev pub dedupe-from : Limits → ℕ → ℕ → ℕ → ℕ → Growing → Growing
-dedupe-from l s v c e w = second l v e (copy-end l v e (at-first l v e w (seek (w .count) s e (rows-of w) (w .count) c)))
+dedupe-from l s v c e w = second l v e (copy-end l v e (at-first l v e w (seek (w .used) s e (rows-of w) (w .used) c)))
 
 unfoldable pub dedupe-at : Limits → ℕ → Growing → Growing
 dedupe-at l e w =
     cond (halted w) w
     (named-or (halt w) (names (startOf (rows-of w) e) (w .middle .run .vertices)) (λ s.
     named-or (halt w) (names (endOf (rows-of w) e) (w .middle .run .vertices)) (λ v.
-    named-or (halt w) (onward (w .count) (rows-of w) e) (λ c.
+    named-or (halt w) (onward (w .used) (rows-of w) e) (λ c.
     dedupe-from l s v c e w))))

@@ -1,2 +1,1 @@
 pub mod Dedupe
-pub mod DedupeEdge

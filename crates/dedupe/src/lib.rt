@@ -1,4 +1,4 @@
-// Deduping an edge: the step of dedupe_edge, and its entry, which has a spare.
+// Deduping an edge: the step of dedupe_edge.
 ghost use mathlib.Core.Path.{_≡_};
 ghost use mathlib.Core.List.{List};
 ghost use Prim.Native.Nat.{ℕ, _<_};
@@ -15,8 +15,6 @@ use numbers::NamedHalfedge;
 use numbers::NamedVertex;
 use numbers::Vertex;
 use searches::Sought;
-
-pub mod entry;
 
 // The search about the end, from c on: what is inserted where it meets another half-edge from the start s.
 fn first(

@@ -24,16 +24,16 @@ none-cut (suc k) (x ∷ xs) e = absurd (true≢false (sym e))
 no-half-edge : (H : ℕ) (rows : List ℤ) → H ≡ 0 → NoDuplicates H rows
 no-half-edge H rows z h g l r e = absurd (omega (arith, l .in-use))
 
-nothing-to-do : (l : Limits) (least : ℕ) (x : Growing) → Ordered l least x → no-entry (to-do l x) ≡ true → NoDuplicates (x .count) (rows-of x)
+nothing-to-do : (l : Limits) (least : ℕ) (x : Growing) → Ordered l least x → no-entry (to-do l x) ≡ true → NoDuplicates (x .used) (rows-of x)
 nothing-to-do l least x o e = rw (o .is) (go (none-cut (l .halfedges) (duplicates (o .H) (o .N) (o .rows)) (rw (o .is) at e)))
   where
     go : (l .halfedges ≡ 0) ⊎ (duplicates (o .H) (o .N) (o .rows) ≡ []) → NoDuplicates (o .H) (o .rows)
     go (inl z) = no-half-edge (o .H) (o .rows) (omega (arith, o .fits .within-capacity))
     go (inr z) = no-duplicates (o .H) (o .N) (o .rows) (o .fits .thirds) (o .in-order) z
 
-pub rounds-clean : (l : Limits) (least n : ℕ) (w : Growing) → Left l least w → rounds l n w .clean ≡ true → NoDuplicates (rounds l n w .growing .count) (rows-of (rounds l n w .growing))
+pub rounds-clean : (l : Limits) (least n : ℕ) (w : Growing) → Left l least w → rounds l n w .clean ≡ true → NoDuplicates (rounds l n w .growing .used) (rows-of (rounds l n w .growing))
 rounds-clean l least n w o e = go (rounds-end l least n w o e)
   where
-    go : (rounds l n w .growing .count ≡ 0) ⊎ (Ordered l least (rounds l n w .growing) × (no-entry (to-do l (rounds l n w .growing)) ≡ true)) → NoDuplicates (rounds l n w .growing .count) (rows-of (rounds l n w .growing))
-    go (inl z) = no-half-edge (rounds l n w .growing .count) (rows-of (rounds l n w .growing)) z
+    go : (rounds l n w .growing .used ≡ 0) ⊎ (Ordered l least (rounds l n w .growing) × (no-entry (to-do l (rounds l n w .growing)) ≡ true)) → NoDuplicates (rounds l n w .growing .used) (rows-of (rounds l n w .growing))
+    go (inl z) = no-half-edge (rounds l n w .growing .used) (rows-of (rounds l n w .growing)) z
     go (inr (k, z)) = nothing-to-do l least (rounds l n w .growing) k z

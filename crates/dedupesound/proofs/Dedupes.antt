@@ -1,9 +1,8 @@
 -- dedupe_edge's steps at a live half-edge of rows in order: there is no room, or the rows are in order afterwards, with as many half-edges
 -- and vertices as are then in use, and what is left is told in words. They never stop.
 use mathlib.Core.Path.{_≡_, refl, sym, ap, _∙_, subst}
-use mathlib.Core.Logic.{_⊎_, inl, inr, ⊎-elim}
+use mathlib.Core.Logic.{_⊎_, inl, inr}
 use Prim.Native.Nat.{ℕ, _+_, _<_, _≤_}
-use native.Mathlib.Omega.{arith}
 use borrow.Author.Tests.{eq-eqb}
 use lib.IntN.{pos}
 use Rattle.numbers.specs.Next.{next}
@@ -13,10 +12,12 @@ use Rattle.net.specs.Sound.{start-vertex}
 use Rattle.net.proofs.Sound.{live-row}
 use Rattle.walks.specs.Way.{move}
 use Rattle.growth.specs.declared.Limits.{Limits}
-use Rattle.growth.specs.Growth.{Growing, rows-of, copy-round}
+use Rattle.steps.specs.Steps.{begin}
+use Rattle.growth.specs.Growth.{Growing, growing, rows-of, copy-round}
 use Rattle.searches.specs.Seek.{Place, seek}
 use Rattle.dedupe.specs.Dedupe.{stood, at-first, copy-end, second, dedupe-at}
-use Rattle.dedupesound.specs.Deduped.{Alone, Deduped}
+use Rattle.dedupesound.specs.Deduped.{Meets, Alone, Deduped}
+use Rattle.dedupesound.specs.Room.{Lacks, no-vertex, no-triangles}
 use Rattle.dedupesound.proofs.Sought.{goes-on, Stops, seek-stops, none-but-home}
 use Rattle.dedupesound.proofs.Steps.{FanCopied, First, Went, Out, OutWith, lacking, without, lent, no-room-halts, second-halted, copy-left}
 use Rattle.dedupesound.proofs.Inserting.{insert-left}
@@ -27,7 +28,7 @@ end-first : (l : Limits) (e v : ℕ) (w after : Growing) → Alone (rows-of w) e
 end-first l e v w after alone f = record {
   way = inr (record {
     alone = alone;
-    count-is = f .count-is;
+    used-is = f .used-is;
     relabelled = record {
       these-ends = f .ends;
       these-starts = f .starts;
@@ -57,41 +58,46 @@ module _ (l : Limits) (e v least : ℕ) (w : Growing) (g : Went l e v least w) (
   same-rows : rows-of w ≡ g .rows
   same-rows = ap rows-of (g .is)
 
-  -- no room for two vertices, or for two triangles
-  abbrev pub Lacks : Type 0
-  Lacks = (l .vertices < g .N + 2) ⊎ (l .halfedges < g .H + 6)
+  abbrev now : Growing
+  now = growing (begin (g .rows) (g .positions) (g .N)) (g .H) (g .normals) (g .references)
+
+  lacks-here : Lacks l e now → Lacks l e w
+  lacks-here k = subst (Lacks l e) (sym (g .is)) k
 
   -- about the end
   first-left : (p : Place) → Stops (g .H) (g .N) (g .rows) (g .fits .thirds) (lent l e v least w g) (g .in-order) s e (move (g .rows) e) p →
-      OutWith l e v least Lacks (First l e v w) (copy-end l v e (at-first l v e w p))
+      OutWith l e v least (Lacks l e w) (First l e v w) (copy-end l v e (at-first l v e w p))
   unfolding copy-end
-  first-left p (inl (c, z, m)) = rw z (lacking l e v least (First l e v w) (λ k. ⊎-elim (λ b. inl (omega arith)) (λ b. inr b) k) (insert-left l e v least w g is-v c (record {
-    moves = m .moves;
-    there = m .there;
-    not-edge = m .not-home;
-    same-start = m .starts ∙ sym is-s;
-    first = λ k b y. m .first k b (y ∙ is-s);
-  })))
+  first-left p (inl (c, z, m)) = rw z (lacking l e v least (First l e v w) (λ k. lacks-here (lacks k)) (insert-left l e v least w g is-v c meets))
+    where
+      meets : Meets (g .rows) e c
+      meets = record {
+        moves = m .moves;
+        there = m .there;
+        not-edge = m .not-home;
+        same-start = m .starts ∙ sym is-s;
+        first = λ k b y. m .first k b (y ∙ is-s);
+      }
+
+      lacks : (l .vertices ≤ g .N) ⊎ (l .halfedges < g .H + 6) → Lacks l e now
+      lacks (inl b) = no-vertex b
+      lacks (inr b) = no-triangles c meets b
   first-left p (inr (z, m)) = rw z (ending (copy-left l e v least w g e (g .e-live)))
     where
       alone : Alone (g .rows) e
       alone k r y = none-but-home (g .H) (g .N) (g .rows) (g .fits .thirds) (lent l e v least w g) (g .in-order) s e m k r (y ∙ is-s)
 
-      ending : OutWith l e v least (l .vertices ≤ g .N) (FanCopied v e w) (copy-round l v (next e) w) → OutWith l e v least Lacks (First l e v w) (copy-end l v e (stood w e))
-      ending (inl (y, b)) = rw (eq-eqb e e refl) (inl (y, inl (omega arith)))
+      ending : OutWith l e v least (l .vertices ≤ g .N) (FanCopied v e w) (copy-round l v (next e) w) → OutWith l e v least (Lacks l e w) (First l e v w) (copy-end l v e (stood w e))
+      ending (inl (y, b)) = rw (eq-eqb e e refl) (inl (y, lacks-here (no-vertex b)))
       ending (inr (n, f)) = rw (eq-eqb e e refl) (inr (n, end-first l e v w (copy-round l v (next e) w) (rw same-rows alone) f))
 
   -- then about the start; where there is no room nothing more is done
-  then-second : (w1 : Growing) → OutWith l e v least Lacks (First l e v w) w1 → OutWith l e v least Lacks (Deduped l e w) (second l v e w1)
+  then-second : (w1 : Growing) → OutWith l e v least (Lacks l e w) (First l e v w) w1 → OutWith l e v least (Lacks l e w) (Deduped l e w) (second l v e w1)
   then-second w1 (inl (z, k)) = inl (ap (λ (x : Growing). x .middle .run .how) (second-halted l e v least w1 (no-room-halts w1 z)) ∙ z, k)
-  then-second w1 (inr (n, f)) =
-      let a : w .middle .run .vertices ≡ g .N = ap (λ (x : Growing). x .middle .run .vertices) (g .is) in
-      let b : w1 .middle .run .vertices ≡ n .N = ap (λ (x : Growing). x .middle .run .vertices) (n .is) in
-      let c = f .vertices-are in
-      lacking l e v least (Deduped l e w) (λ k. inl (omega arith)) (second-left l e v least w w1 g n is-v f)
+  then-second w1 (inr (n, f)) = second-left l e v least w w1 g n is-v f
 
   -- the whole
-  pub dedupe-left : OutWith l e v least Lacks (Deduped l e w) (dedupe-at l e w)
+  pub dedupe-left : OutWith l e v least (Lacks l e w) (Deduped l e w) (dedupe-at l e w)
   unfolding dedupe-at
   dedupe-left =
       let f = g .fits .thirds in
@@ -101,8 +107,8 @@ module _ (l : Limits) (e v least : ℕ) (w : Growing) (g : Went l e v least w) (
       let d = goes-on (g .H) (g .N) (g .rows) f (lent l e v least w g) (g .in-order) (g .e-live) in
       let p = seek (g .H) s e (g .rows) (g .H) (move (g .rows) e) in
       let o = then-second _ (first-left p (seek-stops (g .H) (g .N) (g .rows) f (lent l e v least w g) (g .in-order) s e (g .e-live))) in
-      subst (λ (x : Growing). OutWith l e v least Lacks (Deduped l e x) (dedupe-at l e x)) (sym (g .is))
-      (rw (a, b, d) (subst (λ (x : Growing). OutWith l e v least Lacks (Deduped l e x) (second l v e (copy-end l v e (at-first l v e x p)))) (g .is) o))
+      subst (λ (x : Growing). OutWith l e v least (Lacks l e x) (Deduped l e x) (dedupe-at l e x)) (sym (g .is))
+      (rw (a, b, d) (subst (λ (x : Growing). OutWith l e v least (Lacks l e x) (Deduped l e x) (second l v e (copy-end l v e (at-first l v e x p)))) (g .is) o))
 
   pub dedupe-goes : Out l e v least (dedupe-at l e w)
-  dedupe-goes = without l e v least Lacks (Deduped l e w) dedupe-left
+  dedupe-goes = without l e v least (Lacks l e w) (Deduped l e w) dedupe-left

@@ -425,7 +425,7 @@ module _ (l : Limits) (e v least : ℕ) (w : Growing) (g : Went l e v least w) (
             c,
             record {
               meets = meets;
-              count-is = six;
+              used-is = six;
               relabelled = relabelled;
               triangles = in-words .triangles;
               normals-copied = λ x. let f = g .faces-fit .normals-lent x in copied-there triple put-triple triple-put triple-other length-put (l .normals) (H / 3) ((H + 3) / 3) (here / 3) (other / 3) (g .normals) triangle-on x (omega (arith, room2)) other-old;

@@ -1,21 +1,19 @@
 -- dedupe_edges' rounds on rows in order: there is no room, or the rows are in order afterwards. They never stop.
 use mathlib.Core.Path.{_≡_, refl, sym, subst}
-use mathlib.Core.Bool.{true, false, cond, true≢false, _&&_, _||_, not}
-use mathlib.Core.List.{List, [], _∷_, _++_}
+use mathlib.Core.Bool.{true, false, cond, true≢false}
+use mathlib.Core.List.{List, [], _∷_}
 use mathlib.Core.Logic.{_⊎_, inl, inr}
-use Prim.Native.Nat.{ℕ, zero, suc, _%_, _<_, _≤_}
+use Prim.Native.Nat.{ℕ, zero, suc, _<_, _≤_}
 use native.Mathlib.Nat.{le-refl}
 use native.Mathlib.Omega.{arith}
 use borrow.Author.Tests.{eqb-true}
 use lib.Dec.{eqb}
 use lib.IntN.{ℤ}
-use lib.ListN.{take}
 use Rattle.laws.specs.Integers.{eqZ}
 use Rattle.laws.proofs.Tests.{by-test, and3}
 use Rattle.numbers.specs.Numbers.{Named, at, nothing, names, named-or}
 use Rattle.numbers.specs.Next.{next}
-use Rattle.numbers.proofs.Names.{names-below, names-is}
-use Rattle.numbers.proofs.NextLaws.{next-in}
+use Rattle.numbers.proofs.Names.{names-is}
 use Rattle.rows.specs.Halfedges.{endOf, pairOf, is-started, is-ended}
 use Rattle.net.specs.Sound.{end-vertex, InOrder, Live}
 use Rattle.net.proofs.Sound.{live-row}
@@ -23,54 +21,14 @@ use Rattle.steps.specs.Steps.{NoRoom, begin}
 use Rattle.growth.specs.declared.Limits.{Limits}
 use Rattle.growth.specs.Growth.{Growing, growing, rows-of, Fits, FacesFit, VerticesFit, halted}
 use Rattle.dedupe.specs.Dedupe.{dedupe-at}
-use Rattle.searches.specs.Duplicates.{turns, fan, is-duplicate, those, is-in, Search, search-row, search-rows, again, still}
+use Rattle.searches.specs.Duplicates.{again, still}
+use Rattle.duplicates.proofs.Scans.{Below}
+use Rattle.duplicates.proofs.Found.{duplicates-in}
 use Rattle.rounds.specs.Rounds.{fix, each, no-entry, to-do, rounds}
 use Rattle.dedupesound.proofs.Steps.{Went, Out, no-room-halts}
 use Rattle.dedupesound.proofs.Dedupes.{dedupe-goes}
 
--- every entry is below H
-abbrev pub Below : ℕ → List ℕ → Type 0
-Below H [] = _≡_ {A = ℕ} 0 0
-Below H (x ∷ xs) = (x < H) × Below H xs
-
-below-append : (H : ℕ) (xs ys : List ℕ) → Below H xs → Below H ys → Below H (xs ++ ys)
-below-append H [] ys a b = b
-below-append H (x ∷ xs) ys a b = (a .0, below-append H xs ys (a .1) b)
-
-below-take : (H n : ℕ) (xs : List ℕ) → Below H xs → Below H (take n xs)
-below-take H zero xs a = refl
-below-take H (suc n) [] a = refl
-below-take H (suc n) (x ∷ xs) a = (a .0, below-take H n xs (a .1))
-
--- what a round lists is below the half-edges in use
-module _ (H N : ℕ) (rows : List ℤ) (thirds : H % 3 ≡ 0) where
-  turns-below : (home n c : ℕ) → Below H (turns H rows home n c)
-  unfolding turns
-  turns-below home zero c = refl
-  turns-below home (suc n) c = go (names (pairOf rows c) H) refl (λ p. turns-below home n (next p))
-    where
-      go : (w : Named) → names (pairOf rows c) H ≡ w → ((p : ℕ) → Below H (turns H rows home n (next p))) →
-          Below H (named-or [] w (λ p. cond (eqb (next p) home) [] (next p ∷ turns H rows home n (next p))))
-      go nothing e more = refl
-      go (at p) e more = by-test (eqb (next p) home) (λ t. rw t refl) (λ t. rw t (next-in p H (names-below (pairOf rows c) H e) thirds, more p))
-
-  those-below : (w cs : List ℕ) → Below H cs → Below H (those N rows w cs)
-  unfolding those
-  those-below w [] a = refl
-  those-below w (c ∷ cs) a = by-test (is-duplicate N rows w c) (λ t. rw t (a .0, those-below w cs (a .1))) (λ t. rw t (those-below w cs (a .1)))
-
-  row-below : (i : ℕ) (s : Search) → i < H → Below H (s .list) → Below H (search-row H N rows i s .list)
-  unfolding search-row
-  row-below i s b a =
-      by-test (is-in i (s .seen) || not (is-started rows i && is-ended rows i))
-      (λ t. rw t a)
-      (λ t. rw t (below-append H (s .list) _ a (those-below (fan H rows i) (fan H rows i) (b, turns-below i H i))))
-
-  rows-below : (i : ℕ) → i ≤ H → Below H (search-rows H N rows i .list)
-  unfolding search-rows
-  rows-below zero b = refl
-  rows-below (suc i) b = row-below i (search-rows H N rows i) (omega arith) (rows-below i (omega arith))
-
+module _ (H : ℕ) (rows : List ℤ) where
   -- a half-edge that is still duplicated is live
   still-live : (d : ℕ) → d < H → still H rows d ≡ true → Live H rows d
   unfolding still again
@@ -110,7 +68,7 @@ module _ (l : Limits) where
   one-goes : (least d : ℕ) (w : Growing) → d < least → Left l least w → Left l least (fix l d w)
   unfolding fix
   one-goes least d w b (inl z) = rw (no-room-halts w z) (inl z)
-  one-goes least d w b (inr o) = subst (λ (x : Growing). Left l least (cond (halted x) x (cond (still (x .count) (rows-of x) d) (dedupe-at l d x) x))) (sym (o .is)) go
+  one-goes least d w b (inr o) = subst (λ (x : Growing). Left l least (cond (halted x) x (cond (still (x .used) (rows-of x) d) (dedupe-at l d x) x))) (sym (o .is)) go
     where
       now : Growing
       now = growing (begin (o .rows) (o .positions) (o .N)) (o .H) (o .normals) (o .references)
@@ -139,7 +97,7 @@ module _ (l : Limits) where
       go : Left l least (cond (still (o .H) (o .rows) d) (dedupe-at l d (growing (begin (o .rows) (o .positions) (o .N)) (o .H) (o .normals) (o .references))) (growing (begin (o .rows) (o .positions) (o .N)) (o .H) (o .normals) (o .references)))
       go =
           by-test (still (o .H) (o .rows) d)
-          (λ t. rw t (subst (λ (x : Growing). Left l least (dedupe-at l d x)) (o .is) (done (still-live (o .H) (o .N) (o .rows) (o .fits .thirds) d (let a = o .above in omega arith) t))))
+          (λ t. rw t (subst (λ (x : Growing). Left l least (dedupe-at l d x)) (o .is) (done (still-live (o .H) (o .rows) d (let a = o .above in omega arith) t))))
           (λ t. rw t (subst (Left l least) (o .is) (inr o)))
 
   each-goes : (least : ℕ) (ds : List ℕ) (w : Growing) → Below least ds → Left l least w → Left l least (each l ds w)
@@ -156,7 +114,7 @@ module _ (l : Limits) where
   round-goes least w o = raise (o .above) (each-goes (o .H) (to-do l w) w listed (inr again-there))
     where
       listed : Below (o .H) (to-do l w)
-      listed = subst (λ (x : Growing). Below (o .H) (to-do l x)) (sym (o .is)) (below-take (o .H) (l .halfedges) _ (rows-below (o .H) (o .N) (o .rows) (o .fits .thirds) (o .H) (le-refl _)))
+      listed = subst (λ (x : Growing). Below (o .H) (to-do l x)) (sym (o .is)) (duplicates-in (o .H) (o .N) (o .rows) (o .fits .thirds) (l .halfedges))
 
       again-there : Ordered l (o .H) w
       again-there = record { rows = o .rows; positions = o .positions; N = o .N; H = o .H; normals = o .normals; references = o .references; is = o .is; fits = o .fits; vertices-fit = o .vertices-fit; faces-fit = o .faces-fit; in-order = o .in-order; above = le-refl _ }
@@ -175,9 +133,9 @@ module _ (l : Limits) where
 
   -- rounds that end clean: there is no half-edge, or the last round found nothing to do
   pub rounds-end : (least n : ℕ) (w : Growing) → Left l least w → rounds l n w .clean ≡ true →
-      (rounds l n w .growing .count ≡ 0) ⊎ (Ordered l least (rounds l n w .growing) × (no-entry (to-do l (rounds l n w .growing)) ≡ true))
+      (rounds l n w .growing .used ≡ 0) ⊎ (Ordered l least (rounds l n w .growing) × (no-entry (to-do l (rounds l n w .growing)) ≡ true))
   unfolding rounds
-  rounds-end least zero w o e = inl (eqb-true (w .count) 0 e)
+  rounds-end least zero w o e = inl (eqb-true (w .used) 0 e)
   rounds-end least (suc n) w (inl z) e = absurd (true≢false (sym (rw (no-room-halts w z) at e)))
   rounds-end least (suc n) w (inr o) e =
       by-test (halted w)

@@ -27,6 +27,7 @@ use Rattle.growth.specs.Growth.{Growing, growing, rows-of, copy-round}
 use Rattle.searches.specs.Seek.{Place, seek}
 use Rattle.dedupe.specs.Dedupe.{at-second, second}
 use Rattle.dedupesound.specs.Deduped.{Nobody, Relabelled, Copies, Appended, TwoTriangles, Inserted, EndCopied, StartKept, StartCopied, Deduped, inserted, end-copied, inserted-start-copied, both-copied}
+use Rattle.dedupesound.specs.Room.{Parts, Lacks, no-second, no-second-alone}
 use Rattle.dedupesound.proofs.Sought.{goes-on, MetAt, CameHome, Stops, seek-stops, none-but-home}
 use Rattle.dedupesound.proofs.Steps.{FanCopied, First, Went, OutWith, lent, copy-left}
 
@@ -216,11 +217,11 @@ module _ (l : Limits) (e v least : ℕ) (w w1 : Growing) (g : Went l e v least w
   copied-then : (f : EndCopied l e now now1 Nobody) (z : n .N ≡ N + 1) (after : Growing) → FanCopied v p now1 after → EndCopied l e now after (Reached rows p)
   copied-then f z after fan = record {
     alone = f .alone;
-    count-is = fan .count-is ∙ f .count-is;
+    used-is = fan .used-is ∙ f .used-is;
     relabelled = relabelled-on (Reached rows e) (copied-between f z) after fan;
     pairs = λ k. fan .pairs k ∙ f .pairs k;
     props = λ k. fan .props k ∙ f .props k;
-    behind = subst (λ (k : ℕ). rows-from k (rows-of after) ≡ rows-from k rows1) (f .count-is) (fan .behind) ∙ f .behind;
+    behind = subst (λ (k : ℕ). rows-from k (rows-of after) ≡ rows-from k rows1) (f .used-is) (fan .behind) ∙ f .behind;
     same-length = fan .same-length ∙ f .same-length;
     normals-kept = fan .normals-are ∙ f .normals-kept;
     references-kept = fan .references-are ∙ f .references-kept;
@@ -350,14 +351,14 @@ module _ (l : Limits) (e v least : ℕ) (w w1 : Growing) (g : Went l e v least w
         pair-e1 = fan .pairs (next e) ∙ k .pair-e1;
         pairs = λ j b nh nc no' ne. fan .pairs j ∙ k .pairs j b nh nc no' ne;
         props = λ j b. fan .props j ∙ k .props j b;
-        behind = subst (λ (j : ℕ). rows-from j (rows-of after) ≡ rows-from j rows1) (f .count-is) (fan .behind) ∙ k .behind;
+        behind = subst (λ (j : ℕ). rows-from j (rows-of after) ≡ rows-from j rows1) (f .used-is) (fan .behind) ∙ k .behind;
         same-length = fan .same-length ∙ k .same-length;
       }
 
       inserted-then : Inserted l e now after c (Reached rows p)
       inserted-then = record {
         meets = f .meets;
-        count-is = fan .count-is ∙ f .count-is;
+        used-is = fan .used-is ∙ f .used-is;
         relabelled = relabelled-on (OnWay rows here other) inserted-between after fan;
         triangles = triangles-on;
         normals-copied = λ x. rw (fan .normals-are) (f .normals-copied x);
@@ -396,7 +397,7 @@ module _ (l : Limits) (e v least : ℕ) (w w1 : Growing) (g : Went l e v least w
 
     start-kept : (c : ℕ) → MetAt (n .H) (n .N) rows1 thirds1 long1 (n .in-order) v p (move rows1 p) c → StartKept l e now now1
     start-kept c m = record {
-      joined = (c, (reached-entry (reach-trans (move rows1) (1, refl) (m .moves, m .there)), m .starts ∙ ap pos (sym is-end)));
+      connected = (c, (reached-entry (reach-trans (move rows1) (1, refl) (m .moves, m .there)), m .starts ∙ ap pos (sym is-end)));
       vertices-are = f .vertices-are;
       positions-are = rw (is-end, positions1-are) (one-copy v N (g .positions) (g .v-in) room1);
     }
@@ -439,19 +440,40 @@ module _ (l : Limits) (e v least : ℕ) (w w1 : Growing) (g : Went l e v least w
         go (inl (x, i)) = inserted-start-copied x (inserted-then x i (f .vertices-are) after fan) (start-copied home after m fan)
         go (inr k) = both-copied (copied-then k (f .vertices-are) after fan) (start-copied home after m fan)
 
+    -- the start's fan came apart, and there is no room for another copy
+    parted : (these : ℕ → Type 0) → Between these → CameHome (n .H) (n .N) rows1 thirds1 long1 (n .in-order) v p (move rows1 p) → Parts l e now these
+    parted these b home k r y off =
+        let back = on (on (about-live these b r)) .in-use in
+        let same : startOf rows1 k ≡ startOf rows k = ap (startOf rows1) (sym (next-round k)) ∙ b .relabelled .other-starts (next (next k)) back off (λ x. x) ∙ ap (startOf rows) (next-round k) in
+        let at-v : startOf rows1 k ≡ pos v = same ∙ y ∙ ap pos is-end in
+        let is-p = none-but-home (n .H) (n .N) rows1 thirds1 long1 (n .in-order) v p home k (from-entry these b r) at-v in
+        let u : N ≡ v = pos-inj (sym (mate-start these b) ∙ ap (startOf rows1) (sym is-p) ∙ at-v) in
+        let d = g .v-in in
+        omega arith
+
+    lost : CameHome (n .H) (n .N) rows1 thirds1 long1 (n .in-order) v p (move rows1 p) → l .vertices ≤ n .N → Lacks l e now
+    lost home few = go (f .way)
+      where
+        short : l .vertices < N + 2
+        short = let a = f .vertices-are in omega arith
+
+        go : ((c : ℕ) × Inserted l e now now1 c Nobody) ⊎ EndCopied l e now now1 Nobody → Lacks l e now
+        go (inl (c, i)) = no-second c (i .meets) (parted (OnWay rows (move rows c) (move rows e)) (inserted-between c i (f .vertices-are)) home) short
+        go (inr k) = no-second-alone (k .alone) (parted (Reached rows e) (copied-between k (f .vertices-are)) home) short
+
     -- the steps, from where they stand
     stands1 : Went l e v least now1
     stands1 = subst (Went l e v least) (n .is) n
 
-    at-stop : (x : Place) → Stops (n .H) (n .N) rows1 thirds1 long1 (n .in-order) v p (move rows1 p) x → OutWith l e v least (l .vertices ≤ n .N) (Deduped l e now) (at-second l v now1 x)
+    at-stop : (x : Place) → Stops (n .H) (n .N) rows1 thirds1 long1 (n .in-order) v p (move rows1 p) x → OutWith l e v least (Lacks l e now) (Deduped l e now) (at-second l v now1 x)
     at-stop x (inl (c, z, m)) = rw z (inr (stands1, kept-left c m))
     at-stop x (inr (z, m)) = rw z (told (subst (λ (y : Growing). OutWith l e v least (l .vertices ≤ n .N) (FanCopied v p y) (copy-round l v (next p) y)) (n .is) (copy-left l e v least w1 n p lp1)))
       where
-        told : OutWith l e v least (l .vertices ≤ n .N) (FanCopied v p now1) (copy-round l v (next p) now1) → OutWith l e v least (l .vertices ≤ n .N) (Deduped l e now) (copy-round l v (next p) now1)
-        told (inl y) = inl y
+        told : OutWith l e v least (l .vertices ≤ n .N) (FanCopied v p now1) (copy-round l v (next p) now1) → OutWith l e v least (Lacks l e now) (Deduped l e now) (copy-round l v (next p) now1)
+        told (inl (y, few)) = inl (y, lost m few)
         told (inr (k, fan)) = inr (k, copied-left m (copy-round l v (next p) now1) k fan)
 
-    second-told : OutWith l e v least (l .vertices ≤ n .N) (Deduped l e now) (second l v e now1)
+    second-told : OutWith l e v least (Lacks l e now) (Deduped l e now) (second l v e now1)
     unfolding second
     second-told =
         let k = row1 (n .e-live) in
@@ -459,8 +481,8 @@ module _ (l : Limits) (e v least : ℕ) (w w1 : Growing) (g : Went l e v least w
         let c = goes-on (n .H) (n .N) rows1 thirds1 long1 (n .in-order) lp1 in
         rw (a, c) (at-stop (seek (n .H) v p rows1 (n .H) (move rows1 p)) (seek-stops (n .H) (n .N) rows1 thirds1 long1 (n .in-order) v p lp1))
 
-  pub second-left : First l e v w w1 → OutWith l e v least (l .vertices ≤ n .N) (Deduped l e w) (second l v e w1)
+  pub second-left : First l e v w w1 → OutWith l e v least (Lacks l e w) (Deduped l e w) (second l v e w1)
   second-left f =
-      subst (λ (x : Growing). OutWith l e v least (l .vertices ≤ n .N) (Deduped l e x) (second l v e w1)) (sym (g .is))
-      (subst (λ (x : Growing). OutWith l e v least (l .vertices ≤ n .N) (Deduped l e now) (second l v e x)) (sym (n .is))
+      subst (λ (x : Growing). OutWith l e v least (Lacks l e x) (Deduped l e x) (second l v e w1)) (sym (g .is))
+      (subst (λ (x : Growing). OutWith l e v least (Lacks l e now) (Deduped l e now) (second l v e x)) (sym (n .is))
       (second-told (subst (λ (x : Growing). First l e v now x) (n .is) (subst (λ (x : Growing). First l e v x w1) (g .is) f))))

@@ -4,15 +4,12 @@ use mathlib.Core.Path.{_≡_, refl}
 use mathlib.Core.Bool.{true}
 use mathlib.Core.List.{List}
 use mathlib.Core.Logic.{_⊎_, inl, inr}
-use Prim.Native.Nat.{ℕ, _+_, _<_}
+use Prim.Native.Nat.{ℕ}
 use native.Mathlib.Nat.{le-refl}
 use native.Mathlib.Omega.{arith}
 use borrow.Author.Tests.{lt-ltb}
-use lib.IntN.{ℤ}
-use lib.ListN.{length}
 use Rattle.net.specs.declared.Counts.{Counts}
 use Rattle.net.specs.Net.{Net, net}
-use Rattle.net.specs.Counts.{triangle-capacity-over, vertex-capacity-over, halfedge-capacity, vertex-capacity}
 use Rattle.net.specs.Sound.{end-vertex, Live, Sound}
 use Rattle.net.proofs.Sound.{live-row}
 use Rattle.steps.specs.Steps.{NoRoom, Going}
@@ -24,6 +21,7 @@ use Rattle.dedupe.specs.Dedupe.{dedupe-at}
 use Rattle.rounds.specs.Rounds.{rounds}
 use Rattle.net.specs.Grown.{with-growth}
 use Rattle.dedupesound.specs.Deduped.{Deduped}
+use Rattle.dedupesound.specs.Room.{Lacks}
 use Rattle.dedupesound.specs.Clean.{NoDuplicates}
 use Rattle.net.proofs.Grown.{shaped-grown}
 use Rattle.dedupesound.proofs.Steps.{Went, OutWith}
@@ -34,13 +32,7 @@ use Rattle.dedupesound.proofs.Rounded.{Ordered, Left, ordered, rounds-g
 -- how a net is left: there is no room, or it is sound over the counts that are then in use
 pub record SoundAfter (c : Counts) (properties : List ℕ) (x : Growing) : Type 0 where
   pub going : x .middle .run .how ≡ Going
-  pub sound : Sound (with-growth c (x .count) (x .middle .run .vertices)) (net (rows-of x) (x .middle .positions) (x .normals) (x .references) properties)
-
--- what there can be depends on no more than how many numbers are lent
-pub limits-same : (c : Counts) (n : Net) (k : ℕ) (rows : List ℤ) (positions : List ℕ) → length rows ≡ length (n .halfedges) → length positions ≡ length (n .positions) →
-    limits-of (record { halfedges = c .halfedges; vertices = k; normals = c .normals; references = c .references; properties = c .properties; «num_prop» = c .«num_prop» }) (net rows positions (n .normals) (n .references) (n .properties)) ≡ limits-of c n
-unfolding triangle-capacity-over vertex-capacity-over
-limits-same c n k rows positions a b = rw (a, b)
+  pub sound : Sound (with-growth c (x .used) (x .middle .run .vertices)) (net (rows-of x) (x .middle .positions) (x .normals) (x .references) properties)
 
 module _ (c : Counts) (n : Net) (sound : Sound c n) where
   abbrev l : Limits
@@ -92,7 +84,7 @@ module _ (c : Counts) (n : Net) (sound : Sound c n) where
   rounds-sound k = left-sound (rounds l k at-entry .growing) (c .halfedges) (rounds-goes l (c .halfedges) k at-entry (inr begun-ordered))
 
   -- and where they end clean there are no duplicates
-  pub rounds-clean : (k : ℕ) → rounds l k at-entry .clean ≡ true → NoDuplicates (rounds l k at-entry .growing .count) (rows-of (rounds l k at-entry .growing))
+  pub rounds-clean : (k : ℕ) → rounds l k at-entry .clean ≡ true → NoDuplicates (rounds l k at-entry .growing .used) (rows-of (rounds l k at-entry .growing))
   rounds-clean k e = C.rounds-clean l (c .halfedges) k at-entry (inr begun-ordered) e
 
   -- one half-edge, with what is left in words
@@ -121,17 +113,13 @@ module _ (c : Counts) (n : Net) (sound : Sound c n) where
           above = le-refl _;
         }
 
-    -- no room for two vertices, or for two triangles
-    abbrev pub Lacks : Type 0
-    Lacks = (vertex-capacity n < c .vertices + 2) ⊎ (halfedge-capacity c n < c .halfedges + 6)
-
     abbrev pub steps : Growing
     steps = dedupe-at l e at-entry
 
-    pub dedupe-sound : ((steps .middle .run .how ≡ NoRoom) × Lacks) ⊎ (SoundAfter c (n .properties) steps × Deduped l e at-entry steps)
+    pub dedupe-sound : ((steps .middle .run .how ≡ NoRoom) × Lacks l e at-entry) ⊎ (SoundAfter c (n .properties) steps × Deduped l e at-entry steps)
     unfolding went
     dedupe-sound = go (dedupe-left l e v (c .halfedges) at-entry went (live-row (c .halfedges) (c .vertices) (n .halfedges) (sound .shaped .thirds) (sound .in-order) le .end-is))
       where
-        go : OutWith l e v (c .halfedges) Lacks (Deduped l e at-entry) steps → ((steps .middle .run .how ≡ NoRoom) × Lacks) ⊎ (SoundAfter c (n .properties) steps × Deduped l e at-entry steps)
+        go : OutWith l e v (c .halfedges) (Lacks l e at-entry) (Deduped l e at-entry) steps → ((steps .middle .run .how ≡ NoRoom) × Lacks l e at-entry) ⊎ (SoundAfter c (n .properties) steps × Deduped l e at-entry steps)
         go (inl z) = inl z
         go (inr (k, d)) = inr (ordered-sound steps (c .halfedges) (ordered k), d)

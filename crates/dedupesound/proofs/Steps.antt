@@ -129,9 +129,9 @@ pub record FanCopied (v a : ℕ) (w after : Growing) : Type 0 where
   pub other-starts : (g : ℕ) → (Reached (rows-of w) a g → ⊥) → startOf (rows-of after) (next g) ≡ startOf (rows-of w) (next g)
   pub pairs : (g : ℕ) → pairOf (rows-of after) g ≡ pairOf (rows-of w) g
   pub props : (g : ℕ) → propOf (rows-of after) g ≡ propOf (rows-of w) g
-  pub behind : rows-from (w .count) (rows-of after) ≡ rows-from (w .count) (rows-of w)
+  pub behind : rows-from (w .used) (rows-of after) ≡ rows-from (w .used) (rows-of w)
   pub same-length : length (rows-of after) ≡ length (rows-of w)
-  pub count-is : after .count ≡ w .count
+  pub used-is : after .used ≡ w .used
   pub vertices-are : after .middle .run .vertices ≡ w .middle .run .vertices + 1
   pub positions-are : after .middle .positions ≡ put-triple (w .middle .run .vertices) (triple (w .middle .positions) v) (w .middle .positions)
   pub normals-are : after .normals ≡ w .normals
@@ -254,7 +254,7 @@ module _ (l : Limits) (e v least : ℕ) where
           props = round-props H N (g .rows) (g .fits .thirds) lent (g .in-order) (next a) l1;
           behind = round-behind H N (g .rows) (g .fits .thirds) lent (g .in-order) (next a) l1;
           same-length = round-length H N (g .rows) (g .fits .thirds) lent (g .in-order) (next a) l1;
-          count-is = refl;
+          used-is = refl;
           vertices-are = refl;
           positions-are = refl;
           normals-are = refl;

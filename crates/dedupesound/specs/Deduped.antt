@@ -82,7 +82,7 @@ pub record TwoTriangles (H N : ℕ) (t : ℤ) (here other c1 e1 : ℕ) (rows aft
 
 module _ (l : Limits) (e : ℕ) (before after : Growing) where
   abbrev H : ℕ
-  H = before .count
+  H = before .used
 
   abbrev N : ℕ
   N = before .middle .run .vertices
@@ -96,7 +96,7 @@ module _ (l : Limits) (e : ℕ) (before after : Growing) where
   -- ---- about the end: c starts where e does too. The half-edges from `here` up to `other`, e among them, end at the copy
   pub record Inserted (c : ℕ) (those : ℕ → Type 0) : Type 0 where
     pub meets : Meets rows e c
-    pub count-is : after .count ≡ H + 6
+    pub used-is : after .used ≡ H + 6
     pub relabelled : Relabelled H N (OnWay rows (move rows c) (move rows e)) those rows (rows-of after)
     pub triangles : TwoTriangles H N (endOf rows e) (move rows c) (move rows e) (next c) (next e) rows (rows-of after)
     pub normals-copied : l .normals ≡ true → FacesCopied triple (H / 3) (move rows c / 3) (move rows e / 3) (before .normals) (after .normals)
@@ -107,7 +107,7 @@ module _ (l : Limits) (e : ℕ) (before after : Growing) where
   -- or none does: all about the end of e end at the copy. No half-edge is appended, and no pair changed
   pub record EndCopied (those : ℕ → Type 0) : Type 0 where
     pub alone : Alone rows e
-    pub count-is : after .count ≡ H
+    pub used-is : after .used ≡ H
     pub relabelled : Relabelled H N (Reached rows e) those rows (rows-of after)
     pub pairs : (g : ℕ) → pairOf (rows-of after) g ≡ pairOf rows g
     pub props : (g : ℕ) → propOf (rows-of after) g ≡ propOf rows g
@@ -118,7 +118,7 @@ module _ (l : Limits) (e : ℕ) (before after : Growing) where
 
   -- ---- about the start, in the fan of p: some half-edge still starts at v
   pub record StartKept : Type 0 where
-    pub joined : (g : ℕ) × (Reached rows (partner rows e) g × (startOf (rows-of after) g ≡ pos v))
+    pub connected : (g : ℕ) × (Reached rows (partner rows e) g × (startOf (rows-of after) g ≡ pos v))
     pub vertices-are : after .middle .run .vertices ≡ N + 1
     pub positions-are : Copies v N 1 (before .middle .positions) (after .middle .positions)
 

@@ -16,7 +16,8 @@ use Rattle.growth.specs.declared.Limits.{Limits}
 use Rattle.growth.specs.Growth.{Growing}
 use Rattle.settling.specs.Settling.{limits-of, begun}
 use Rattle.rounds.specs.Rounds.{rounds}
-use Rattle.dedupesound.proofs.Sounds.{SoundAfter, limits-same, rounds-sound}
+use Rattle.settling.proofs.Entry.{limits-same}
+use Rattle.dedupesound.proofs.Sounds.{SoundAfter, rounds-sound}
 
 module _ (c : Counts) (n : Net) (work visit : List ℕ) (sound : Sound c n) (o : SplitOutcome) (added steps : ℕ) (d : SplitDone c n work visit o added steps) (k : FreeKept c n visit o added steps) where
   abbrev H : ℕ

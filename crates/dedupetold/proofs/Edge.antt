@@ -1,14 +1,15 @@
 -- dedupe_edge in words: it says 1 to 5 exactly when document 01 calls for them, and then leaves everything; it never says 7; past the
 -- checks it says 0, with the net sound over the counts that it says and as `Deduped` has it, or 6, with everything as at entry but the
 -- free rows that had been filled.
-use mathlib.Core.Path.{_≡_, refl}
+use mathlib.Core.Path.{_≡_, refl, sym, _∙_}
 use mathlib.Core.Bool.{true}
 use mathlib.Core.List.{List}
-use mathlib.Core.Logic.{_⊎_, inl, inr, ⊎-elim}
+use mathlib.Core.Logic.{_⊎_, inl, inr, _↔_}
 use Prim.Native.Nat.{ℕ, _+_, _≤_}
 use native.Mathlib.Omega.{arith}
 use lib.IntN.{ℤ, pos}
-use Rattle.answers.specs.Answers.{Said, bad-number, dead}
+use Rattle.answers.specs.Answers.{Said, bad-number, dead, no-room}
+use Rattle.answers.proofs.Laws.{numbers-differ}
 use Rattle.laws.proofs.Tests.{by-test, both2}
 use Rattle.numbers.specs.Numbers.{Named, at, nothing, names, is-named}
 use Rattle.numbers.proofs.Names.{names-at}
@@ -29,15 +30,17 @@ use Rattle.settling.specs.Settling.{limits-of, begun}
 use Rattle.settling.proofs.Kept.{Grew}
 use Rattle.settling.proofs.Entry.{begun-fits}
 use Rattle.dedupe.specs.Dedupe.{dedupe-at}
-use Rattle.dedupe.specs.DedupeEdge.{Left, left, dedupeAt, dedupeNamed, dedupeEdge}
+use Rattle.dedupeedge.specs.DedupeEdge.{Left, left, dedupeAt, dedupeNamed, dedupeEdge}
 use Rattle.dedupe.proofs.Grown.{dedupe-grew}
 use Rattle.refusals.specs.Refusals.{of-sound, Names, NamesLive, Early, Refusals}
 use Rattle.refusals.proofs.Law.{checked, Begins, stops, goes}
 use Rattle.refusals.proofs.Entries.{long-refusals}
 use Rattle.refusals.proofs.Tests.{told-both, told-least, told-names, is-live, told-live}
 use Rattle.dedupesound.specs.Deduped.{Deduped}
-use Rattle.dedupesound.proofs.Sounds.{SoundAfter, at-entry, Lacks, dedupe-sound}
-use Rattle.dedupetold.specs.Told.{IsDone, in-use, EdgeEnded, edge-done, edge-full, Spared}
+use Rattle.dedupesound.specs.Room.{Lacks, no-vertex, no-triangles, no-second, no-second-alone}
+use Rattle.dedupesound.proofs.Sounds.{SoundAfter, at-entry, dedupe-sound}
+use Rattle.dedupesound.proofs.Room.{lacks-full}
+use Rattle.dedupetold.specs.Told.{DoneSound, in-use, EdgeEnded, edge-done, edge-full, Spared}
 use Rattle.dedupetold.proofs.Ends as E
 
 module _ (c : Counts) (n : Net) (spare-halfedges : List ℤ) (spare-positions : List ℕ) (halfedge : ℤ) where
@@ -109,22 +112,40 @@ module _ (c : Counts) (n : Net) (spare-halfedges : List ℤ) (spare-positions : 
     grew : Grew l (at-entry c n sound) steps
     grew = dedupe-grew l e (at-entry c n sound) (begun-fits c n (sound .shaped))
 
-    ended-there : ((steps .middle .run .how ≡ NoRoom) × Lacks c n sound e le) ⊎ (SoundAfter c (n .properties) steps × Deduped l e (at-entry c n sound) steps) → EdgeEnded c n e (net-left (at-e e)) (at-e e .said)
+    ended-there : ((steps .middle .run .how ≡ NoRoom) × Lacks l e (at-entry c n sound)) ⊎ (SoundAfter c (n .properties) steps × Deduped l e (at-entry c n sound) steps) → EdgeEnded c n e (net-left (at-e e)) (at-e e .said)
     unfolding dedupeAt
-    ended-there (inl (z, k)) = edge-full (steps .count) (steps .middle .run .vertices) (E.full c n sound steps grew z) k
-    ended-there (inr (s, d)) = edge-done (steps .count) (steps .middle .run .vertices) (E.done-there c n sound steps grew s) (rw (E.going-is c n sound steps grew s) d)
+    ended-there (inl (z, k)) = edge-full (steps .used) (steps .middle .run .vertices) (E.full c n sound steps grew z) k
+    ended-there (inr (s, d)) = edge-done (steps .used) (steps .middle .run .vertices) (E.done-there c n sound steps grew s) (rw (E.going-is c n sound steps grew s) d)
 
     pub dedupe-told : EdgeEnded c n e (net-left result) (result .said)
     dedupe-told = rw passed (ended-there (dedupe-sound c n sound e le))
 
     -- with room for two vertices and two triangles it is done
+    room : N + 2 ≤ vertex-capacity n → H + 6 ≤ halfedge-capacity c n → Lacks l e (in-use H N n) → ⊥
+    room a b (no-vertex x) = omega arith
+    room a b (no-triangles g m x) = omega arith
+    room a b (no-second g m q x) = omega arith
+    room a b (no-second-alone f q x) = omega arith
+
     pub dedupe-room : N + 2 ≤ vertex-capacity n → H + 6 ≤ halfedge-capacity c n →
-        (k : ℕ) × (m : ℕ) × (IsDone c (net-left result) (result .said) k m × Deduped l e (in-use H N n) (in-use k m (net-left result)))
+        (k : ℕ) × (m : ℕ) × (DoneSound c (net-left result) (result .said) k m × Deduped l e (in-use H N n) (in-use k m (net-left result)))
     dedupe-room a b = go dedupe-told
       where
-        go : EdgeEnded c n e (net-left result) (result .said) → (k : ℕ) × (m : ℕ) × (IsDone c (net-left result) (result .said) k m × Deduped l e (in-use H N n) (in-use k m (net-left result)))
+        go : EdgeEnded c n e (net-left result) (result .said) → (k : ℕ) × (m : ℕ) × (DoneSound c (net-left result) (result .said) k m × Deduped l e (in-use H N n) (in-use k m (net-left result)))
         go (edge-done k m d o) = (k, m, (d, o))
-        go (edge-full k m f r) = ⊎-elim (λ x. absurd (omega arith)) (λ x. absurd (omega arith)) r
+        go (edge-full k m f r) = absurd (room a b r)
+
+    -- there is no room exactly where the first append of those that it makes passes its capacity
+    pub dedupe-no-room : (result .said ≡ no-room) ↔ Lacks l e (in-use H N n)
+    unfolding dedupeAt
+    dedupe-no-room = (λ z. lacks z dedupe-told, λ k. rw passed (full k))
+      where
+        lacks : result .said ≡ no-room → EdgeEnded c n e (net-left result) (result .said) → Lacks l e (in-use H N n)
+        lacks z (edge-done k m d o) = numbers-differ (sym (d .said-is) ∙ z) (λ y. omega arith)
+        lacks z (edge-full k m f r) = r
+
+        full : Lacks l e (in-use H N n) → at-e e .said ≡ no-room
+        full k = E.full c n sound steps grew (lacks-full c n sound e le k) .said-is
 
     pub dedupe-spared : Spared c n spare-halfedges spare-positions (result .spare-halfedges) (result .spare-positions)
     unfolding dedupeAt

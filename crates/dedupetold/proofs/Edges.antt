@@ -24,7 +24,7 @@ use Rattle.growth.specs.Growth.{Growing, settled}
 use Rattle.settling.specs.Settling.{limits-of, begun}
 use Rattle.settling.proofs.Entry.{begun-fits}
 use Rattle.rounds.specs.Rounds.{rounds}
-use Rattle.rounds.specs.DedupeEdges.{Left, as-lent, roundsAt, dedupeEdges}
+use Rattle.dedupeedges.specs.DedupeEdges.{Left, as-lent, roundsAt, dedupeEdges}
 use Rattle.rounds.proofs.Grown.{rounds-grew}
 use Rattle.refusals.specs.Refusals.{nothing-asked, of-sound, Early, Refusals}
 use Rattle.refusals.proofs.Law.{Tells, goes}

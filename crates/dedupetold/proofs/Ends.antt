@@ -31,7 +31,7 @@ use Rattle.settling.proofs.Kept.{Grew}
 use Rattle.refusals.specs.Refusals.{Early}
 use Rattle.net.specs.Grown.{faces-for}
 use Rattle.dedupesound.proofs.Sounds.{SoundAfter, at-entry}
-use Rattle.dedupetold.specs.Told.{IsDone, IsFull, Ended, is-done, is-full, in-use}
+use Rattle.dedupetold.specs.Told.{DoneSound, PutBack, Ended, done-sound, put-back, in-use}
 
 -- rows of three that follow the triangles: zero from the used ones on, where there are any
 faces-zeroed : {A : Type 0} (zero : A) (used H K : ℕ) (l : List A) → (used ≡ 0) ⊎ (used ≡ H / 3) → cond (ltb 0 used) (filled zero (3 * (H / 3)) (3 * (K / 3)) l) l ≡ filled zero (3 * used) (3 * faces-for used K) l
@@ -55,13 +55,13 @@ module _ (c : Counts) (n : Net) (sound : Sound c n) where
   ended x = settled l (c .halfedges) (c .vertices) (n .halfedges) (n .positions) (n .normals) (n .references) x
 
   abbrev pub said-of : Growing → Said
-  said-of x = grown-said (x .count) (x .middle .run .vertices) (x .middle .run .how)
+  said-of x = grown-said (x .used) (x .middle .run .vertices) (x .middle .run .how)
 
   abbrev pub net-of : Growing → Net
   net-of x = net (rows-of x) (x .middle .positions) (x .normals) (x .references) (n .properties)
 
   module _ (x : Growing) (grew : Grew l (at-entry c n sound) x) where
-    pub full : x .middle .run .how ≡ NoRoom → IsFull c n (net-of (ended x)) (said-of (ended x)) (x .count) (x .middle .run .vertices)
+    pub full : x .middle .run .how ≡ NoRoom → PutBack c n (net-of (ended x)) (said-of (ended x)) (x .used) (x .middle .run .vertices)
     unfolding zero-triples zero-references
     full z =
         let t : halted x ≡ true = ap is-refused z in
@@ -69,41 +69,41 @@ module _ (c : Counts) (n : Net) (sound : Sound c n) where
         let f = grew .fitting in
         record {
           said-is = rw (t, z);
-          halfedges-free = g .count-grows;
+          halfedges-free = g .halfedges-grow;
           halfedges-within = f .rows-fit .within-capacity;
           vertices-free = g .vertices-grow;
           vertices-within = f .vertices-fit .within-vertices;
           halfedges-are = rw t;
           positions-are = rw t;
-          normals-are = rw t (faces-zeroed 0 (c .normals) (c .halfedges) (x .count) (n .normals) (sound .shaped .normals-fit));
-          references-are = rw t (faces-zeroed (pos 0) (c .references) (c .halfedges) (x .count) (n .references) (sound .shaped .references-fit));
+          normals-are = rw t (faces-zeroed 0 (c .normals) (c .halfedges) (x .used) (n .normals) (sound .shaped .normals-fit));
+          references-are = rw t (faces-zeroed (pos 0) (c .references) (c .halfedges) (x .used) (n .references) (sound .shaped .references-fit));
         }
 
-    pub done-there : SoundAfter c (n .properties) x → IsDone c (net-of (ended x)) (said-of (ended x)) (x .count) (x .middle .run .vertices)
+    pub done-there : SoundAfter c (n .properties) x → DoneSound c (net-of (ended x)) (said-of (ended x)) (x .used) (x .middle .run .vertices)
     done-there s =
         let t : halted x ≡ false = ap is-refused (s .going) in
         rw t (record { said-is = rw (s .going); sound = s .sound })
 
     -- steps that go on leave the net as it stands
-    pub going-is : SoundAfter c (n .properties) x → in-use (x .count) (x .middle .run .vertices) (net-of (ended x)) ≡ x
+    pub going-is : SoundAfter c (n .properties) x → in-use (x .used) (x .middle .run .vertices) (net-of (ended x)) ≡ x
     going-is s =
         let t : halted x ≡ false = ap is-refused (s .going) in
-        rw t (ap (λ (k : How). growing (middle (rows-of x) (x .middle .positions) (running (x .middle .run .vertices) k)) (x .count) (x .normals) (x .references)) (sym (s .going)))
+        rw t (ap (λ (k : How). growing (middle (rows-of x) (x .middle .positions) (running (x .middle .run .vertices) k)) (x .used) (x .normals) (x .references)) (sym (s .going)))
 
     pub left-told : (x .middle .run .how ≡ NoRoom) ⊎ SoundAfter c (n .properties) x → Ended c n (net-of (ended x)) (said-of (ended x))
-    left-told (inl z) = is-full (x .count) (x .middle .run .vertices) (full z)
-    left-told (inr s) = is-done (x .count) (x .middle .run .vertices) (done-there s)
+    left-told (inl z) = put-back (x .used) (x .middle .run .vertices) (full z)
+    left-told (inr s) = done-sound (x .used) (x .middle .run .vertices) (done-there s)
 
 -- what is said then is 0 or 6
-pub done-not-stopped : {c : Counts} {after : Net} {said : Said} {H N : ℕ} → IsDone c after said H N → said .number ≡ 7 → ⊥
+pub done-not-stopped : {c : Counts} {after : Net} {said : Said} {H N : ℕ} → DoneSound c after said H N → said .number ≡ 7 → ⊥
 done-not-stopped d e = let z = ap (λ (s : Said). s .number) (d .said-is) in omega arith
 
-pub full-not-stopped : {c : Counts} {n after : Net} {said : Said} {H N : ℕ} → IsFull c n after said H N → said .number ≡ 7 → ⊥
+pub full-not-stopped : {c : Counts} {n after : Net} {said : Said} {H N : ℕ} → PutBack c n after said H N → said .number ≡ 7 → ⊥
 full-not-stopped f e = let z = ap (λ (s : Said). s .number) (f .said-is) in omega arith
 
 pub not-stopped : {c : Counts} {n after : Net} {said : Said} → Ended c n after said → said .number ≡ 7 → ⊥
-not-stopped (is-done H N d) e = done-not-stopped d e
-not-stopped (is-full H N f) e = full-not-stopped f e
+not-stopped (done-sound H N d) e = done-not-stopped d e
+not-stopped (put-back H N f) e = full-not-stopped f e
 
 -- steps say 0, 6 or 7
 late-by : (H N : ℕ) (w : How) → Early (grown-said H N w) → ⊥
@@ -111,5 +111,5 @@ late-by H N W.Going e = omega (arith, e .0)
 late-by H N W.NoRoom e = omega (arith, e .1)
 late-by H N W.Stopped e = omega (arith, e .1)
 
-pub said-late : (x : Growing) → Early (grown-said (x .count) (x .middle .run .vertices) (x .middle .run .how)) → ⊥
-said-late x = late-by (x .count) (x .middle .run .vertices) (x .middle .run .how)
+pub said-late : (x : Growing) → Early (grown-said (x .used) (x .middle .run .vertices) (x .middle .run .how)) → ⊥
+said-late x = late-by (x .used) (x .middle .run .vertices) (x .middle .run .how)

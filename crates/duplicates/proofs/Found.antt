@@ -2,7 +2,7 @@
 use mathlib.Core.Path.{_≡_, refl, sym, ap, _∙_}
 use mathlib.Core.Bool.{_&&_, _||_, not}
 use mathlib.Core.List.{List, [], _∷_, _++_}
-use Prim.Native.Nat.{ℕ, zero, suc, _+_, _-_, _%_, _≤_, _<_}
+use Prim.Native.Nat.{ℕ, zero, suc, _+_, _%_, _≤_, _<_}
 use native.Mathlib.Nat.{le-refl}
 use native.Mathlib.Omega.{arith}
 use lib.IntN.{ℤ}
@@ -51,7 +51,7 @@ module _ (H N : ℕ) (rows : List ℤ) (thirds : H % 3 ≡ 0) where
   pub duplicates-in : (n : ℕ) → Below H (take n (duplicates H N rows))
   duplicates-in n = below-take H n (duplicates H N rows) (rows-in H (le-refl H))
 
--- the entries that count, and the rest
+-- the entries that are filled, and the rest
 module _ (H N capacity : ℕ) (rows : List ℤ) (list₀ list : List ℕ) (count : ℕ) (e : entries list count ≡ found H N capacity rows list₀) where
   abbrev all : List ℕ
   all = take capacity (duplicates H N rows)
@@ -60,7 +60,7 @@ module _ (H N capacity : ℕ) (rows : List ℤ) (list₀ list : List ℕ) (count
   list-is = ap (λ (s : Entries). s .list) e
 
   pub found-count : count ≡ length all
-  found-count = ap (λ (s : Entries). s .count) e
+  found-count = ap (λ (s : Entries). s .filled) e
 
   pub found-fits : count ≤ capacity
   found-fits = omega (arith, found-count, length-take capacity (duplicates H N rows))

@@ -17,17 +17,17 @@ turn-on H rows home n c =
     cond (eqb n 0) nothing
     (named-or nothing (names (pairOf rows c) H) (λ p. cond (eqb (next p) home) nothing (at (next p))))
 
--- ---- a list, and how many of its entries count
+-- ---- a list, and how many entries from its front on are filled
 pub record Entries : Type 0 where
   pub list : List ℕ
-  pub count : ℕ
+  pub filled : ℕ
 
 abbrev pub entries : List ℕ → ℕ → Entries
-entries l n = record { list = l; count = n }
+entries l n = record { list = l; filled = n }
 
 -- x behind them, where the capacity is not reached
 unfoldable pub push : ℕ → ℕ → Entries → Entries
-push capacity x s = cond (ltb (s .count) capacity) (entries (set (s .list) (s .count) x) (s .count + 1)) s
+push capacity x s = cond (ltb (s .filled) capacity) (entries (set (s .list) (s .filled) x) (s .filled + 1)) s
 
 unfoldable pub push-all : ℕ → List ℕ → Entries → Entries
 push-all capacity [] s = s

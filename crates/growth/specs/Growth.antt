@@ -21,12 +21,12 @@ use Rattle.growth.specs.declared.Grown.{Grown}
 pub record Growing : Type 0 where
   pub middle : Middle
   -- half-edges in use
-  pub count : ℕ
+  pub used : ℕ
   pub normals : List ℕ
   pub references : List ℤ
 
 abbrev pub growing : Middle → ℕ → List ℕ → List ℤ → Growing
-growing m k n r = record { middle = m; count = k; normals = n; references = r }
+growing m k n r = record { middle = m; used = k; normals = n; references = r }
 
 abbrev pub grown-to : ℕ → Run → Grown
 grown-to k r = record { halfedges = k; run = r }
@@ -43,7 +43,7 @@ halted w = refused (w .middle)
 
 -- a step that appends no half-edge
 abbrev pub inside : (Middle → Middle) → Growing → Growing
-inside f w = growing (f (w .middle)) (w .count) (w .normals) (w .references)
+inside f w = growing (f (w .middle)) (w .used) (w .normals) (w .references)
 
 abbrev pub halt : Growing → Growing
 halt w = inside (ended Stopped) w
@@ -69,7 +69,7 @@ pub record VerticesFit (l : Limits) (vertices : ℕ) (positions : List ℕ) : Ty
 
 -- what a step counts on, and leaves to the next
 pub record Fitting (l : Limits) (w : Growing) : Type 0 where
-  pub rows-fit : Fits l (w .count) (rows-of w)
+  pub rows-fit : Fits l (w .used) (rows-of w)
   pub vertices-fit : VerticesFit l (w .middle .run .vertices) (w .middle .positions)
   pub faces-fit : FacesFit l (w .normals) (w .references)
 
@@ -82,26 +82,26 @@ pub record More (a b : Grown) : Type 0 where
 unfoldable pub add : Limits → ℕ → ℕ → ℕ → ℕ → Growing → Growing
 add l a b h e w =
     cond (halted w) w
-    (cond (leb (l .halfedges) (w .count)) (inside (ended NoRoom) w)
-    (growing (with-rows (append-triangle (w .count) a b h e (w .middle .halfedges)) (w .middle)) (w .count + 3) (w .normals) (w .references)))
+    (cond (leb (l .halfedges) (w .used)) (inside (ended NoRoom) w)
+    (growing (with-rows (append-triangle (w .used) a b h e (w .middle .halfedges)) (w .middle)) (w .used + 3) (w .normals) (w .references)))
 
 -- its third row takes the partner of h, its second row h; k is its first
 unfoldable pub join : ℕ → ℕ → Growing → Growing
 join k h w =
     cond (halted w) w
-    (named-or (halt w) (names (pairOf (w .middle .halfedges) h) (w .count)) (λ q.
+    (named-or (halt w) (names (pairOf (w .middle .halfedges) h) (w .used)) (λ q.
     inside (with-rows (paired (k + 1) h (paired (k + 2) q (w .middle .halfedges)))) w))
 
 -- triangle u gets the normal and the reference of t, where there are any
 unfoldable pub face : Limits → ℕ → ℕ → Growing → Growing
 face l t u w =
     cond (halted w) w
-    (growing (w .middle) (w .count)
+    (growing (w .middle) (w .used)
     (cond (l .normals) (put-triple u (triple (w .normals) t) (w .normals)) (w .normals))
     (cond (l .references) (put-reference u (reference (w .references) t) (w .references)) (w .references)))
 
 unfoldable pub beside : Limits → ℕ → ℕ → ℕ → ℕ → Growing → Growing
-beside l a b h e w = face l (h / 3) (w .count / 3) (join (w .count) h (add l a b h e w))
+beside l a b h e w = face l (h / 3) (w .used / 3) (join (w .used) h (add l a b h e w))
 
 -- ---- a copy of v, set on the fan of h: on the start of each half-edge and on the end of its partner. The walk of update_vert from the
 -- partner p of h, once round: its first move is made by itself, since a walk from p to p does nothing.
@@ -117,13 +117,13 @@ unfoldable pub copy-of : ℕ → ℕ → Middle → Middle
 copy-of capacity v m = cond (refused m) m (append capacity v m)
 
 unfoldable pub copy-round : Limits → ℕ → ℕ → Growing → Growing
-copy-round l v h w = inside (relabel (w .count) (w .middle .run .vertices) h) (inside (copy-of (l .vertices) v) w)
+copy-round l v h w = inside (relabel (w .used) (w .middle .run .vertices) h) (inside (copy-of (l .vertices) v) w)
 
 -- ---- the end: as the steps left it, or all put back and the free rows that were filled zero. H, N are in use at entry
 abbrev pub settled : Limits → ℕ → ℕ → List ℤ → List ℕ → List ℕ → List ℤ → Growing → Growing
 settled l H N rows positions normals references w =
     cond (halted w)
-    (growing (middle (zero-rows H (w .count) rows) (zero-triples N (w .middle .run .vertices) positions) (w .middle .run)) (w .count)
-    (cond (l .normals) (zero-triples (H / 3) (w .count / 3) normals) normals)
-    (cond (l .references) (zero-references (H / 3) (w .count / 3) references) references))
+    (growing (middle (zero-rows H (w .used) rows) (zero-triples N (w .middle .run .vertices) positions) (w .middle .run)) (w .used)
+    (cond (l .normals) (zero-triples (H / 3) (w .used / 3) normals) normals)
+    (cond (l .references) (zero-references (H / 3) (w .used / 3) references) references))
     w

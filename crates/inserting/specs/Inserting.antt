@@ -31,14 +31,14 @@ pair-new k w = cond (halted w) w (inside (with-rows (paired (k + 3) k (rows-of w
 -- the rows from `here` up to `other` end at x, a copy of v, and two triangles between v and x fill the gap that opens
 unfoldable pub insert-at : Limits → ℕ → ℕ → ℕ → ℕ → ℕ → Growing → Growing
 insert-at l v x here other e w =
-    pair-new (w .count) (beside l x v other (next e) (beside l v x here (next e) (inside (update (w .count) x here other) w)))
+    pair-new (w .used) (beside l x v other (next e) (beside l v x here (next e) (inside (update (w .used) x here other) w)))
 
 -- from c the search goes one on, to `here`; from the edge to `other`
 abbrev pub insert-from : Limits → ℕ → ℕ → ℕ → ℕ → Growing → Stood
 insert-from l v x c e w =
     cond (halted w) (stood w c)
-    (named-or (stood (halt w) c) (onward (w .count) (rows-of w) c) (λ here.
-    named-or (stood (halt w) c) (onward (w .count) (rows-of w) e) (λ other.
+    (named-or (stood (halt w) c) (onward (w .used) (rows-of w) c) (λ here.
+    named-or (stood (halt w) c) (onward (w .used) (rows-of w) e) (λ other.
     stood (insert-at l v x here other e w) here)))
 
 -- at c, which starts where the edge does: the copy is appended first

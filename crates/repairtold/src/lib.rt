@@ -1,15 +1,15 @@
 // What the entries that repair a net answer, as the struct that each one's caller is told: the number and each value that came, 0 for one that
 // did not. Each entry has a struct of its own.
 ghost use mathlib.Core.Path.{_≡_};
-ghost use Rattle.dedupe.specs.DedupeEdge.{dedupeSaid};
-ghost use Rattle.rounds.specs.DedupeEdges.{edgesSaid};
+ghost use Rattle.dedupeedge.specs.DedupeEdge.{dedupeSaid};
+ghost use Rattle.dedupeedges.specs.DedupeEdges.{edgesSaid};
 ghost use Rattle.cleanup.specs.Cleanup.{cleanupSaid};
 ghost use Rattle.collapse.specs.CollapseEdge.{collapseEdgeSaid};
 ghost use Rattle.repairtold.specs.Told.{edge-told, edge-refused, edges-told, edges-refused, cleanup-told, cleanup-refused, collapse-told, collapse-refused};
 use cleanup::CleanupTopology;
 use collapse::CollapseEdge;
-use dedupe::entry::DedupeEdge;
-use rounds::entry::DedupeEdges;
+use dedupeedge::DedupeEdge;
+use dedupeedges::DedupeEdges;
 
 // How many half-edges and vertices are in use afterwards.
 #[repr(C)]

@@ -1,6 +1,4 @@
 -- The rounds leave alone what every step of a growing net does, on any rows.
-use mathlib.Core.Path.{_≡_}
-use mathlib.Core.Bool.{cond}
 use mathlib.Core.List.{List, [], _∷_}
 use Prim.Native.Nat.{ℕ, zero, suc}
 use Rattle.laws.proofs.Tests.{by-test}
@@ -8,15 +6,14 @@ use Rattle.growth.specs.declared.Limits.{Limits}
 use Rattle.growth.specs.Growth.{Growing, rows-of, halted}
 use Rattle.settling.proofs.Kept.{Fitting, Grew, grew-same, grew-trans, grew-step}
 use Rattle.searches.specs.Duplicates.{still}
-use Rattle.dedupe.specs.Dedupe.{dedupe-at}
 use Rattle.dedupe.proofs.Grown.{dedupe-grew}
-use Rattle.rounds.specs.Rounds.{fix, each, no-entry, to-do, Rounded, rounds}
+use Rattle.rounds.specs.Rounds.{fix, each, no-entry, to-do, rounds}
 
 module _ (l : Limits) where
   pub fix-grew : (d : ℕ) (w : Growing) → Fitting l w → Grew l w (fix l d w)
   unfolding fix
   fix-grew d w r =
-      grew-step l w _ r (λ t. by-test (still (w .count) (rows-of w) d) (λ u. rw u (dedupe-grew l d w r)) (λ u. rw u (grew-same l w r)))
+      grew-step l w _ r (λ t. by-test (still (w .used) (rows-of w) d) (λ u. rw u (dedupe-grew l d w r)) (λ u. rw u (grew-same l w r)))
 
   pub each-grew : (ds : List ℕ) (w : Growing) → Fitting l w → Grew l w (each l ds w)
   unfolding each

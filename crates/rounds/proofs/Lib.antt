@@ -1,5 +1,3 @@
 pub mod Grown
 pub mod Steps
-pub mod Told
-pub mod Settled
 pub mod Cases

@@ -1,6 +1,6 @@
 -- The loops of the rounds, step by step: what is left of a list, or of the rounds, after what is done, is the whole.
 use mathlib.Core.Path.{_≡_, refl, sym, ap, _∙_}
-use mathlib.Core.Bool.{Bool, true, false}
+use mathlib.Core.Bool.{true, false}
 use mathlib.Core.List.{List, [], _∷_}
 use Prim.Native.Nat.{ℕ, zero, suc, _+_, _-_, _≤_, _<_}
 use native.Mathlib.Numerals.{add-one}
@@ -10,15 +10,8 @@ use lib.ListN.{length, getD, take, drop, drop-of-length-le}
 use lib.Seq.{drop-cons, getD-take}
 use Rattle.laws.proofs.Tests.{by-test}
 use Rattle.growth.specs.declared.Limits.{Limits}
-use Rattle.growth.specs.declared.Grown.{Grown}
-use Rattle.growth.specs.Growth.{Growing, halted, More}
+use Rattle.growth.specs.Growth.{Growing, halted}
 use Rattle.rounds.specs.Rounds.{fix, each, no-entry, to-do, Rounded, rounded, rounds, Went, last, on, round}
-
-pub more-trans : {a b c : Grown} → More a b → More b c → More a c
-more-trans f g = record {
-  halfedges-grow = omega (arith, f .halfedges-grow, g .halfedges-grow);
-  vertices-grow = omega (arith, f .vertices-grow, g .vertices-grow);
-}
 
 module _ (l : Limits) where
   -- the entries of a list
@@ -96,7 +89,7 @@ module _ (l : Limits) where
       (λ u. let z : suc n - 1 ≡ n = omega arith in rw (t, u, z, on-is _ _ (rw (t, u) at e))))
 
   -- none is left
-  pub rounds-none : (n : ℕ) (w : Growing) → n ≡ 0 → rounded w (eqb (w .count) 0) ≡ rounds l n w
+  pub rounds-none : (n : ℕ) (w : Growing) → n ≡ 0 → rounded w (eqb (w .used) 0) ≡ rounds l n w
   unfolding rounds
   rounds-none zero w e = refl
   rounds-none (suc n) w e = absurd (omega arith)

@@ -17,7 +17,7 @@ use Rattle.rounds.specs.declared.Made.the-variants as M
 -- ---- a round, and the rounds: at most n more
 -- one entry of the list: an earlier one may have mended it
 unfoldable pub fix : Limits → ℕ → Growing → Growing
-fix l d w = cond (halted w) w (cond (still (w .count) (rows-of w) d) (dedupe-at l d w) w)
+fix l d w = cond (halted w) w (cond (still (w .used) (rows-of w) d) (dedupe-at l d w) w)
 
 unfoldable pub each : Limits → List ℕ → Growing → Growing
 each l [] w = w
@@ -29,7 +29,7 @@ no-entry (d ∷ ds) = false
 
 -- the work list has an entry for each half-edge that there can be: on rows in order that is all of them
 abbrev pub to-do : Limits → Growing → List ℕ
-to-do l w = take (l .halfedges) (duplicates (w .count) (w .middle .run .vertices) (rows-of w))
+to-do l w = take (l .halfedges) (duplicates (w .used) (w .middle .run .vertices) (rows-of w))
 
 -- how the rounds end: the net, and whether it is clean: the round that ended them found no duplicate
 pub record Rounded : Type 0 where
@@ -41,7 +41,7 @@ rounded w clean = record { growing = w; clean = clean }
 
 -- where no round is left they have run out, but where there is no half-edge, and so no round to make, the net is clean
 unfoldable pub rounds : Limits → ℕ → Growing → Rounded
-rounds l zero w = rounded w (eqb (w .count) 0)
+rounds l zero w = rounded w (eqb (w .used) 0)
 rounds l (suc n) w =
     cond (halted w) (rounded w false)
     (cond (no-entry (to-do l w)) (rounded w true) (rounds l n (each l (to-do l w) w)))

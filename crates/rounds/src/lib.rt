@@ -1,4 +1,4 @@
-// Deduping all edges: the rounds of dedupe_edges, and its entry, which has a spare. A round lists the duplicates of every fan and then
+// Deduping all edges: the rounds of dedupe_edges. A round lists the duplicates of every fan and then
 // dedupes those that still are.
 ghost use mathlib.Core.Path.{_≡_};
 ghost use Prim.Native.Nat.{ℕ, _<_, _≤_};
@@ -9,8 +9,6 @@ ghost use Rattle.rounds.specs.Rounds.{fix, each, made-as, grown-of, roun
 use growth::Grown;
 use growth::Limits;
 use numbers::Halfedge;
-
-pub mod entry;
 
 // How the rounds end: the net, and whether it is clean.
 pub struct Rounded {

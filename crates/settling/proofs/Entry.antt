@@ -1,4 +1,5 @@
--- A net with nothing that calls for answer 1 is within what there can be; and what has grown from it can be settled.
+-- A net with nothing that calls for answer 1 is within what there can be, which depends on lengths alone; and what has grown from it can
+-- be settled.
 use mathlib.Core.Path.{_≡_, _∙_}
 use mathlib.Core.Bool.{true}
 use mathlib.Core.List.{List}
@@ -6,11 +7,12 @@ use Prim.Native.Nat.{ℕ, _/_, _%_, _<_, _≤_}
 use native.Mathlib.Omega.{arith}
 use borrow.Author.Tests.{ltb-true}
 use lib.IntN.{ℤ}
+use lib.ListN.{length}
 use Rattle.rows.specs.Halfedges.{lent-halfedges, over-rows}
 use Rattle.rows.specs.Triples.{lent-triples, over-triples}
 use Rattle.net.specs.declared.Counts.{Counts}
-use Rattle.net.specs.Net.{Net}
-use Rattle.net.specs.Counts.{Shaped}
+use Rattle.net.specs.Net.{Net, net}
+use Rattle.net.specs.Counts.{Shaped, triangle-capacity-over, vertex-capacity-over}
 use Rattle.net.proofs.Shape.{capacities}
 use Rattle.steps.specs.Steps.{middle}
 use Rattle.growth.specs.declared.Grown.{Grown}
@@ -19,6 +21,12 @@ use Rattle.growth.specs.Growth.{Growing, growing, settled}
 use Rattle.settling.specs.Settling.{limits-of, begun, settled-by, Settles}
 use Rattle.settling.proofs.Grows.{settle-grown-same}
 use Rattle.settling.proofs.Kept.{Fitting, Grew}
+
+-- what there can be depends on no more than how many numbers are lent
+pub limits-same : (c : Counts) (n : Net) (k : ℕ) (rows : List ℤ) (positions : List ℕ) → length rows ≡ length (n .halfedges) → length positions ≡ length (n .positions) →
+    limits-of (record { halfedges = c .halfedges; vertices = k; normals = c .normals; references = c .references; properties = c .properties; «num_prop» = c .«num_prop» }) (net rows positions (n .normals) (n .references) (n .properties)) ≡ limits-of c n
+unfolding triangle-capacity-over vertex-capacity-over
+limits-same c n k rows positions a b = rw (a, b)
 
 pub begun-fits : (c : Counts) (n : Net) → Shaped c n → Fitting (limits-of c n) (begun (c .halfedges) (c .vertices) (n .halfedges) (n .positions) (n .normals) (n .references))
 begun-fits c n s =
@@ -45,7 +53,7 @@ pub grew-settles : {l : Limits} {H N : ℕ} {rows after : List ℤ} {positions l
 grew-settles spare-halfedges spare-positions g hs hp k = record {
   halfedges-spared = hs;
   positions-spared = hp;
-  halfedges-grow = k .grows .count-grows;
+  halfedges-grow = k .grows .halfedges-grow;
   halfedges-lent = omega (arith, k .fitting .rows-fit .within-capacity, k .fitting .rows-fit .lent);
   vertices-grow = k .grows .vertices-grow;
   vertices-lent = omega (arith, k .fitting .vertices-fit .within-vertices, k .fitting .vertices-fit .vertices-lent);

@@ -23,19 +23,19 @@ use Rattle.settling.specs.Settling.{begun, settled-by}
 use Rattle.settling.proofs.Appended.{Appended, appended-none, appended-trans, appended-zeroed}
 
 pub record Grows (l : Limits) (a b : Growing) : Type 0 where
-  pub count-grows : a .count ≤ b .count
-  pub rows-free : rows-from (b .count) (rows-of b) ≡ rows-from (b .count) (rows-of a)
+  pub halfedges-grow : a .used ≤ b .used
+  pub rows-free : rows-from (b .used) (rows-of b) ≡ rows-from (b .used) (rows-of a)
   pub rows-lent : length (rows-of b) ≡ length (rows-of a)
   pub vertices-grow : a .middle .run .vertices ≤ b .middle .run .vertices
   pub positions-free : triples-from (b .middle .run .vertices) (b .middle .positions) ≡ triples-from (b .middle .run .vertices) (a .middle .positions)
   pub positions-lent : length (b .middle .positions) ≡ length (a .middle .positions)
-  pub normals-grow : Appended (l .normals) (a .count / 3) (b .count / 3) (a .normals) (b .normals)
-  pub references-grow : Appended (l .references) (a .count / 3) (b .count / 3) (a .references) (b .references)
+  pub normals-grow : Appended (l .normals) (a .used / 3) (b .used / 3) (a .normals) (b .normals)
+  pub references-grow : Appended (l .references) (a .used / 3) (b .used / 3) (a .references) (b .references)
 
 module _ {l : Limits} where
   pub grows-same : (w : Growing) → Grows l w w
   grows-same w = record {
-    count-grows = le-refl _;
+    halfedges-grow = le-refl _;
     rows-free = refl;
     rows-lent = refl;
     vertices-grow = le-refl _;
@@ -47,11 +47,11 @@ module _ {l : Limits} where
 
   pub grows-trans : {a b c : Growing} → Grows l a b → Grows l b c → Grows l a c
   grows-trans {a} {b} {c} f g =
-      let h : a .count / 3 ≤ b .count / 3 = omega (arith, f .count-grows) in
-      let j : b .count / 3 ≤ c .count / 3 = omega (arith, g .count-grows) in
+      let h : a .used / 3 ≤ b .used / 3 = omega (arith, f .halfedges-grow) in
+      let j : b .used / 3 ≤ c .used / 3 = omega (arith, g .halfedges-grow) in
       record {
-        count-grows = omega (arith, f .count-grows, g .count-grows);
-        rows-free = g .rows-free ∙ from-more (b .count) (c .count) (rows-of b) (rows-of a) (g .count-grows) (f .rows-free);
+        halfedges-grow = omega (arith, f .halfedges-grow, g .halfedges-grow);
+        rows-free = g .rows-free ∙ from-more (b .used) (c .used) (rows-of b) (rows-of a) (g .halfedges-grow) (f .rows-free);
         rows-lent = g .rows-lent ∙ f .rows-lent;
         vertices-grow = omega (arith, f .vertices-grow, g .vertices-grow);
         positions-free = g .positions-free ∙ triples-more (b .middle .run .vertices) (c .middle .run .vertices) (b .middle .positions) (a .middle .positions) (g .vertices-grow) (f .positions-free);
@@ -61,9 +61,9 @@ module _ {l : Limits} where
       }
 
   -- a step that appends no half-edge, by its frame
-  pub inside-grows : (f : Middle → Middle) (w : Growing) → Frame (w .count) (w .middle) (f (w .middle)) → Grows l w (inside f w)
+  pub inside-grows : (f : Middle → Middle) (w : Growing) → Frame (w .used) (w .middle) (f (w .middle)) → Grows l w (inside f w)
   inside-grows f w k = record {
-    count-grows = le-refl _;
+    halfedges-grow = le-refl _;
     rows-free = k .rows-free;
     rows-lent = k .rows-lent;
     vertices-grow = k .grows;
@@ -90,5 +90,5 @@ pub settle-grown-same : (l : Limits) (H N : ℕ) (rows spare-halfedges : List �
 unfolding zero-triples zero-references
 settle-grown-same l H N rows spare-halfedges positions spare-positions normals references w lr lp f =
     by-test (halted w)
-    (λ t. rw (t, rows-back-zeroed H (w .count) rows (rows-of w) spare-halfedges lr (omega (arith, f .rows-lent)) (f .rows-free), laid-back-zeroed N (w .middle .run .vertices) positions (w .middle .positions) spare-positions lp (omega (arith, f .positions-lent)) (f .positions-free), cond-zeroed (l .normals) 0 (H / 3) (w .count / 3) normals (w .normals) (f .normals-grow), cond-zeroed (l .references) (pos 0) (H / 3) (w .count / 3) references (w .references) (f .references-grow)))
+    (λ t. rw (t, rows-back-zeroed H (w .used) rows (rows-of w) spare-halfedges lr (omega (arith, f .rows-lent)) (f .rows-free), laid-back-zeroed N (w .middle .run .vertices) positions (w .middle .positions) spare-positions lp (omega (arith, f .positions-lent)) (f .positions-free), cond-zeroed (l .normals) 0 (H / 3) (w .used / 3) normals (w .normals) (f .normals-grow), cond-zeroed (l .references) (pos 0) (H / 3) (w .used / 3) references (w .references) (f .references-grow)))
     (λ t. rw t)

@@ -80,7 +80,7 @@ module _ (l : Limits) where
   grew-trans f g = record { grows = grows-trans (f .grows) (g .grows); fitting = g .fitting }
 
   -- what grows stays within what there can be, where its counts do
-  grown-fitting : {a b : Growing} → Fitting l a → Grows l a b → b .count % 3 ≡ 0 → b .count ≤ l .halfedges → b .middle .run .vertices ≤ l .vertices → Fitting l b
+  grown-fitting : {a b : Growing} → Fitting l a → Grows l a b → b .used % 3 ≡ 0 → b .used ≤ l .halfedges → b .middle .run .vertices ≤ l .vertices → Fitting l b
   grown-fitting r g thirds within few = record {
     rows-fit = record {
       thirds = thirds;
@@ -100,12 +100,12 @@ module _ (l : Limits) where
     };
   }
 
-  pub inside-grew : (f : Middle → Middle) (w : Growing) → Fitting l w → Frame (w .count) (w .middle) (f (w .middle)) → f (w .middle) .run .vertices ≤ l .vertices → Grew l w (inside f w)
+  pub inside-grew : (f : Middle → Middle) (w : Growing) → Fitting l w → Frame (w .used) (w .middle) (f (w .middle)) → f (w .middle) .run .vertices ≤ l .vertices → Grew l w (inside f w)
   inside-grew f w r k b =
       let g = inside-grows f w k in
       record { grows = g; fitting = grown-fitting r g (r .rows-fit .thirds) (r .rows-fit .within-capacity) b }
 
-  pub stays-grew : (f : Middle → Middle) (w : Growing) → Fitting l w → Stays (w .count) (w .middle) (f (w .middle)) → Grew l w (inside f w)
+  pub stays-grew : (f : Middle → Middle) (w : Growing) → Fitting l w → Stays (w .used) (w .middle) (f (w .middle)) → Grew l w (inside f w)
   stays-grew f w r s = inside-grew f w r (s .0) (omega (arith, s .1, r .vertices-fit .within-vertices))
 
   pub halt-grew : (w : Growing) → Fitting l w → Grew l w (halt w)
@@ -124,27 +124,27 @@ module _ (l : Limits) where
   unfolding copy-round
   copy-round-grew v h w r =
       let g = copy-of-grew v w r in
-      grew-trans g (stays-grew (relabel (w .count) (w .middle .run .vertices) h) (inside (copy-of (l .vertices) v) w) (g .fitting) (relabel-stays (w .count) (w .middle .run .vertices) h (copy-of (l .vertices) v (w .middle)) (r .rows-fit .thirds)))
+      grew-trans g (stays-grew (relabel (w .used) (w .middle .run .vertices) h) (inside (copy-of (l .vertices) v) w) (g .fitting) (relabel-stays (w .used) (w .middle .run .vertices) h (copy-of (l .vertices) v (w .middle)) (r .rows-fit .thirds)))
 
   -- two rows in use are paired
-  pub pair-grew : (a b : ℕ) (w : Growing) → Fitting l w → a < w .count → b < w .count → Grew l w (inside (with-rows (paired a b (rows-of w))) w)
+  pub pair-grew : (a b : ℕ) (w : Growing) → Fitting l w → a < w .used → b < w .used → Grew l w (inside (with-rows (paired a b (rows-of w))) w)
   pair-grew a b w r ha hb =
       let x = paired-up a b (rows-of w) (omega (arith, r .rows-fit .within-capacity, r .rows-fit .lent)) (omega (arith, r .rows-fit .within-capacity, r .rows-fit .lent)) in
-      stays-grew (with-rows (paired a b (rows-of w))) w r (frame-rows (w .middle) (paired a b (rows-of w)) (w .middle .run .how) (x .behind (w .count) ha hb) (x .same-length), refl)
+      stays-grew (with-rows (paired a b (rows-of w))) w r (frame-rows (w .middle) (paired a b (rows-of w)) (w .middle .run .how) (x .behind (w .used) ha hb) (x .same-length), refl)
 
   -- ---- a triangle
   module _ (a b h e : ℕ) (w : Growing) (r : Fitting l w) where
     abbrev more : Growing
-    more = growing (with-rows (append-triangle (w .count) a b h e (rows-of w)) (w .middle)) (w .count + 3) (w .normals) (w .references)
+    more = growing (with-rows (append-triangle (w .used) a b h e (rows-of w)) (w .middle)) (w .used + 3) (w .normals) (w .references)
 
-    added-grew : w .count < l .halfedges → Grew l w more
+    added-grew : w .used < l .halfedges → Grew l w more
     added-grew c =
-        let f = grown-fits l (w .count) (rows-of w) (rows-of w) (r .rows-fit) c refl in
-        let room : w .count + 3 ≤ lent-halfedges (rows-of w) = omega (arith, f .within-capacity, f .lent) in
+        let f = grown-fits l (w .used) (rows-of w) (rows-of w) (r .rows-fit) c refl in
+        let room : w .used + 3 ≤ lent-halfedges (rows-of w) = omega (arith, f .within-capacity, f .lent) in
         let g : Grows l w more = record {
-          count-grows = omega arith;
-          rows-free = triangle-behind (w .count) a b h e (rows-of w) room;
-          rows-lent = length-triangle (w .count) a b h e (rows-of w) room;
+          halfedges-grow = omega arith;
+          rows-free = triangle-behind (w .used) a b h e (rows-of w) room;
+          rows-lent = length-triangle (w .used) a b h e (rows-of w) room;
           vertices-grow = le-refl _;
           positions-free = refl;
           positions-lent = refl;
@@ -153,16 +153,16 @@ module _ (l : Limits) where
         } in
         record { grows = g; fitting = grown-fitting r g (f .thirds) (f .within-capacity) (r .vertices-fit .within-vertices) }
 
-  joined-grew : (k h : ℕ) (w : Growing) → Fitting l w → k + 3 ≤ w .count → h < w .count → Grew l w (join k h w)
+  joined-grew : (k h : ℕ) (w : Growing) → Fitting l w → k + 3 ≤ w .used → h < w .used → Grew l w (join k h w)
   unfolding join
   joined-grew k h w r last b =
-      grew-step w _ r (λ t. named-keeps (Grew l w) (pairOf (rows-of w) h) (w .count) _ _ (λ q hq.
+      grew-step w _ r (λ t. named-keeps (Grew l w) (pairOf (rows-of w) h) (w .used) _ _ (λ q hq.
       let x = pair-grew (k + 2) q w r (omega arith) hq in
       grew-trans x (pair-grew (k + 1) h (inside (with-rows (paired (k + 2) q (rows-of w))) w) (x .fitting) (omega arith) b))
       (halt-grew w r))
 
   -- a face among those that were appended
-  faced-grew : (t u : ℕ) (a w : Growing) → Grew l a w → a .count / 3 ≤ u → u < w .count / 3 → Grew l a (face l t u w)
+  faced-grew : (t u : ℕ) (a w : Growing) → Grew l a w → a .used / 3 ≤ u → u < w .used / 3 → Grew l a (face l t u w)
   unfolding face put-triple put-reference
   faced-grew t u a w f h b =
       by-test (halted w)
@@ -171,11 +171,11 @@ module _ (l : Limits) where
       (let room : u < l .halfedges / 3 = omega (arith, f .fitting .rows-fit .within-capacity) in
       let p = triple (w .normals) t in
       let q = reference (w .references) t in
-      let n = appended-put (a .count / 3) (w .count / 3) u (p .x) (p .y) (p .z) (a .normals) (w .normals) h b (λ y. omega (arith, room, f .fitting .faces-fit .normals-lent y)) (f .grows .normals-grow) in
-      let m = appended-put (a .count / 3) (w .count / 3) u (q .mesh) (q .coplanar) (q .face) (a .references) (w .references) h b (λ y. omega (arith, room, f .fitting .faces-fit .references-lent y)) (f .grows .references-grow) in
+      let n = appended-put (a .used / 3) (w .used / 3) u (p .x) (p .y) (p .z) (a .normals) (w .normals) h b (λ y. omega (arith, room, f .fitting .faces-fit .normals-lent y)) (f .grows .normals-grow) in
+      let m = appended-put (a .used / 3) (w .used / 3) u (q .mesh) (q .coplanar) (q .face) (a .references) (w .references) h b (λ y. omega (arith, room, f .fitting .faces-fit .references-lent y)) (f .grows .references-grow) in
       record {
         grows = record {
-          count-grows = f .grows .count-grows;
+          halfedges-grow = f .grows .halfedges-grow;
           rows-free = f .grows .rows-free;
           rows-lent = f .grows .rows-lent;
           vertices-grow = f .grows .vertices-grow;
@@ -202,33 +202,33 @@ module _ (l : Limits) where
   unfolding face
   face-halted t u w k = rw k
 
-  face-count : (t u : ℕ) (w : Growing) → face l t u w .count ≡ w .count
+  face-used : (t u : ℕ) (w : Growing) → face l t u w .used ≡ w .used
   unfolding face
-  face-count t u w = by-test (halted w) (λ k. rw k) (λ k. rw k)
+  face-used t u w = by-test (halted w) (λ k. rw k) (λ k. rw k)
 
   -- one more triangle than w has, or the steps do not go on
   abbrev pub OneMore : Growing → Growing → Type 0
-  OneMore w x = Grew l w x × (halted x ≡ false → (halted w ≡ false) × (w .count + 3 ≤ x .count))
+  OneMore w x = Grew l w x × (halted x ≡ false → (halted w ≡ false) × (w .used + 3 ≤ x .used))
 
   add-grew : (a b h e : ℕ) (w : Growing) → Fitting l w → OneMore w (add l a b h e w)
   unfolding add
   add-grew a b h e w r =
       by-test (halted w)
       (λ t. rw t (grew-same w r, λ k. absurd (true≢false (sym t ∙ k))))
-      (λ t. rw t (by-test (leb (l .halfedges) (w .count))
+      (λ t. rw t (by-test (leb (l .halfedges) (w .used))
       (λ u. rw u (inside-grew (ended NoRoom) w r (frame-ended (w .middle) NoRoom) (r .vertices-fit .within-vertices), λ k. absurd (true≢false k)))
-      (λ u. rw u (added-grew a b h e w r (leb-false (l .halfedges) (w .count) u), λ k. (refl, le-refl _)))))
+      (λ u. rw u (added-grew a b h e w r (leb-false (l .halfedges) (w .used) u), λ k. (refl, le-refl _)))))
 
-  pub beside-grew : (a b h e : ℕ) (w : Growing) → Fitting l w → h < w .count → OneMore w (beside l a b h e w)
+  pub beside-grew : (a b h e : ℕ) (w : Growing) → Fitting l w → h < w .used → OneMore w (beside l a b h e w)
   unfolding beside
   beside-grew a b h e w r hb = go (add l a b h e w) (add-grew a b h e w r)
     where
-      go : (x : Growing) → OneMore w x → OneMore w (face l (h / 3) (w .count / 3) (join (w .count) h x))
+      go : (x : Growing) → OneMore w x → OneMore w (face l (h / 3) (w .used / 3) (join (w .used) h x))
       go x g =
           by-test (halted x)
-          (λ t. rw (join-halted (w .count) h x t, face-halted (h / 3) (w .count / 3) x t) g)
+          (λ t. rw (join-halted (w .used) h x t, face-halted (h / 3) (w .used / 3) x t) g)
           (λ t.
           let c = g .1 t .1 in
-          let j = joined-grew (w .count) h x (g .0 .fitting) c (omega arith) in
-          let d : w .count + 3 ≤ join (w .count) h x .count = omega (arith, c, j .grows .count-grows) in
-          (faced-grew (h / 3) (w .count / 3) w (join (w .count) h x) (grew-trans (g .0) j) (le-refl _) (omega arith), λ k. (g .1 t .0, rw (face-count (h / 3) (w .count / 3) (join (w .count) h x)) d)))
+          let j = joined-grew (w .used) h x (g .0 .fitting) c (omega arith) in
+          let d : w .used + 3 ≤ join (w .used) h x .used = omega (arith, c, j .grows .halfedges-grow) in
+          (faced-grew (h / 3) (w .used / 3) w (join (w .used) h x) (grew-trans (g .0) j) (le-refl _) (omega arith), λ k. (g .1 t .0, rw (face-used (h / 3) (w .used / 3) (join (w .used) h x)) d)))

@@ -51,9 +51,9 @@ grownSaid g = grown-said (g .halfedges) (g .run .vertices) (g .run .how)
 abbrev pub settled-by : Limits → ℕ → ℕ → List ℤ → List ℕ → Growing → Growing
 settled-by l H N spare-halfedges spare-positions w =
     cond (halted w)
-    (growing (S.settled-by H N spare-halfedges spare-positions (with-rows (zero-rows H (w .count) (rows-of w)) (w .middle))) (w .count)
-    (cond (l .normals) (zero-triples (H / 3) (w .count / 3) (w .normals)) (w .normals))
-    (cond (l .references) (zero-references (H / 3) (w .count / 3) (w .references)) (w .references)))
+    (growing (S.settled-by H N spare-halfedges spare-positions (with-rows (zero-rows H (w .used) (rows-of w)) (w .middle))) (w .used)
+    (cond (l .normals) (zero-triples (H / 3) (w .used / 3) (w .normals)) (w .normals))
+    (cond (l .references) (zero-references (H / 3) (w .used / 3) (w .references)) (w .references)))
     w
 
 -- what it needs: the rows in use at entry are within the spare, and those in use now, of which there are no fewer, are lent

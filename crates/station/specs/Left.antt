@@ -15,8 +15,8 @@ use Rattle.repairtold.specs.Told.{edge-told, edges-told, cleanup-told, collapse
 use Rattle.owners.specs.Scan as owners
 use Rattle.formloop.specs.FormLoop.{Left}
 use Rattle.splitting.specs.Split.{SplitOutcome}
-use Rattle.dedupe.specs.DedupeEdge as edge
-use Rattle.rounds.specs.DedupeEdges as edges
+use Rattle.dedupeedge.specs.DedupeEdge as edge
+use Rattle.dedupeedges.specs.DedupeEdges as edges
 use Rattle.collapse.specs.CollapseEdge as collapse
 
 -- of an entry whose model is what is said and what is left

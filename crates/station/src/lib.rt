@@ -12,8 +12,8 @@ ghost use Rattle.updatevert.specs.UpdateVert.{updateVert};
 ghost use Rattle.collapsetri.specs.CollapseTri.{collapseTri};
 ghost use Rattle.removefolded.specs.RemoveIfFolded.{removeIfFolded};
 ghost use Rattle.formloop.specs.FormLoop.{formLoop};
-ghost use Rattle.dedupe.specs.DedupeEdge.{dedupeEdge};
-ghost use Rattle.rounds.specs.DedupeEdges.{dedupeEdges};
+ghost use Rattle.dedupeedge.specs.DedupeEdge.{dedupeEdge};
+ghost use Rattle.dedupeedges.specs.DedupeEdges.{dedupeEdges};
 ghost use Rattle.cleanup.specs.Cleanup.{cleanupTopology};
 ghost use Rattle.collapse.specs.CollapseEdge.{collapseEdge, tolerance};
 ghost use Rattle.explain.specs.Explain.{explainRow};
@@ -314,7 +314,7 @@ pub extern "C" fn spoonferret_dedupe_edge(
     ensures { λ r. ⌜ (r, now (halfedges .exit), now (positions .exit), now (normals .exit), now (references .exit), now («spare_halfedges» .exit), now («spare_positions» .exit))
         ≡ edge-left (dedupeEdge (counts-of used) (net (now (halfedges .entry)) (now (positions .entry)) (now (normals .entry)) (now (references .entry)) (now (properties .entry))) (now («spare_halfedges» .entry)) (now («spare_positions» .entry)) halfedge) ⌝ }
 {
-    repairtold::of_edge(dedupe::entry::dedupe_edge(
+    repairtold::of_edge(dedupeedge::dedupe_edge(
         told::counts_of(used),
         halfedges,
         positions,
@@ -343,7 +343,7 @@ pub extern "C" fn spoonferret_dedupe_edges(
     ensures { λ r. ⌜ (r, now (halfedges .exit), now (positions .exit), now (normals .exit), now (references .exit), now («spare_halfedges» .exit), now («spare_positions» .exit), now (work .exit), now (list .exit))
         ≡ edges-left (dedupeEdges (counts-of used) (net (now (halfedges .entry)) (now (positions .entry)) (now (normals .entry)) (now (references .entry)) (now (properties .entry))) (now («spare_halfedges» .entry)) (now («spare_positions» .entry)) (now (work .entry)) (now (list .entry))) ⌝ }
 {
-    repairtold::of_edges(rounds::entry::dedupe_edges(
+    repairtold::of_edges(dedupeedges::dedupe_edges(
         told::counts_of(used),
         halfedges,
         positions,

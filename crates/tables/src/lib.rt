@@ -132,9 +132,8 @@ fn is_done(rows: &[i32], work: &[u32], h: Halfedge) -> bool
     requires { ⌜ (halfedgeNumber h < lent-halfedges (now rows)) × (halfedgeNumber h < length (now work)) ⌝ }
     ensures { λ r. ⌜ r ≡ is-done (now (rows .entry)) (halfedgeNumber h) (now (work .entry)) ⌝ }
 {
-    let k = h.number();
     workentries::is_walked(work, h)
-        | !(rows::corners::started(rows, k) & rows::corners::ended(rows, k))
+        | !(halfedges::is_started(rows, h) & halfedges::is_ended(rows, h))
 }
 
 // The fan of h, where some vertex was entered twice: its duplicates are listed. How many entries there are then.

@@ -11,7 +11,7 @@ use Rattle.splitting.specs.Split.{SplitOutcome, split-sound}
 use Rattle.growth.specs.Growth.{Growing, Fitting}
 use Rattle.settling.proofs.Kept.{grew-trans}
 use Rattle.rounds.proofs.Grown.{rounds-grew}
-use Rattle.rounds.proofs.Settled.{cleared-same, left-as}
+use Rattle.dedupeedges.proofs.Settled.{cleared-same, left-as}
 use Rattle.cleanup.specs.Cleanup.{split-run, after-split, cleanAt}
 use Rattle.cleanup.proofs.Split.{splits}
 use Rattle.cleanup.proofs.Settled.{split-so-far, ends-clean}

@@ -1,7 +1,8 @@
 -- `dedupe::about_start` meets its contract: by where the search stops.
 use native.Mathlib.Omega.{arith}
 use Rattle.numbers.proofs.NextLaws.{next-in}
-use Rattle.dedupe.proofs.Places.{round-below, more-same, more-halted}
+use Rattle.searches.proofs.Places.{round-below}
+use Rattle.growth.proofs.More.{more-same, more-halted}
 use borrow.Author.Needs.{needs}
 use Rattle.dedupe.proofs.about_start.Statement.{statement}
 use Rattle.dedupe.proofs.about_start.Tie as tie

@@ -3,7 +3,7 @@ use mathlib.Core.Path.{sym, _∙_}
 use borrow.Author.Tests.{eq-eqb, ne-eqb}
 use Rattle.numbers.proofs.NextLaws.{next-in}
 use Rattle.dedupe.specs.Dedupe.{copy-end}
-use Rattle.dedupe.proofs.Places.{more-same}
+use Rattle.growth.proofs.More.{more-same}
 use borrow.Author.Needs.{needs}
 use Rattle.dedupe.proofs.copy_end.Statement.{statement}
 use Rattle.dedupe.proofs.copy_end.Tie as tie

@@ -4,7 +4,7 @@ use Rattle.numbers.proofs.Names.{names-below}
 use Rattle.rows.specs.Halfedges.{startOf, endOf}
 use Rattle.walks.proofs.Turns.{onward-below}
 use Rattle.dedupe.specs.Dedupe.{dedupe-at}
-use Rattle.dedupe.proofs.Places.{more-same, more-halted, halted-fits}
+use Rattle.growth.proofs.More.{more-same, more-halted, halted-fits}
 use borrow.Author.Needs.{needs}
 use Rattle.dedupe.proofs.dedupe_step.Statement.{statement}
 use Rattle.dedupe.proofs.dedupe_step.Tie as tie
@@ -71,7 +71,17 @@ same-length-3 c = search needs
 
 returns-4 : tie.Need-returns-4
 unfolding dedupe-at
-returns-4 c = (rw (← c .before .before .before .before .before .before .before .before .before .before .before .before .before .before .before .before .refused .ensures, c .before .before .before .before .before .before .before .before .before .before .before .before .before .before .before .if1 .left, ← (rw (c .before .before .before .before .before .before .before .before .before .before .before .s .given .1) at (c .before .before .before .before .before .before .before .before .before .before .before .before .before .start-of .ensures)), ← (rw (c .before .before .before .before .before .before .v .given .1) at (c .before .before .before .before .before .before .before .before .end-of .ensures)), ← (rw (c .before .enum-told3 .given .1) at (c .before .before .before .onward .ensures)), c .halt3 .ensures), (more-halted _ (c .halt3 .ensures), halted-fits _ (c .halt3 .ensures) _ _ _ _ _ (c .before .before .before .before .before .before .before .before .before .before .before .before .before .before .before .before .before .before .before .before .pre .1)))
+returns-4 c =
+    let at-pre = c .before .before .before .before .before .before .before .before .before .before .before .before .before .before .before .before .before .before .before .before .pre in
+    let at-refused = c .before .before .before .before .before .before .before .before .before .before .before .before .before .before .before .before .refused in
+    let at-if1 = c .before .before .before .before .before .before .before .before .before .before .before .before .before .before .before .if1 in
+    let at-start-of = c .before .before .before .before .before .before .before .before .before .before .before .before .before .start-of in
+    let at-s = c .before .before .before .before .before .before .before .before .before .before .before .s in
+    let at-end-of = c .before .before .before .before .before .before .before .before .end-of in
+    let at-v = c .before .before .before .before .before .before .v in
+    let at-onward = c .before .before .before .onward in
+    let at-enum-told3 = c .before .enum-told3 in
+    (rw (← at-refused .ensures, at-if1 .left, ← (rw (at-s .given .1) at (at-start-of .ensures)), ← (rw (at-v .given .1) at (at-end-of .ensures)), ← (rw (at-enum-told3 .given .1) at (at-onward .ensures)), c .halt3 .ensures), (more-halted _ (c .halt3 .ensures), halted-fits _ (c .halt3 .ensures) _ _ _ _ _ (at-pre .1)))
 
 dedupe-from-requires : tie.Need-dedupe-from-requires
 dedupe-from-requires c κs =
@@ -95,7 +105,17 @@ same-length-7 c = search needs
 
 returns-5 : tie.Need-returns-5
 unfolding dedupe-at
-returns-5 c = (rw (← c .before .before .before .before .before .before .before .before .before .before .before .before .before .before .before .before .before .before .before .before .before .before .before .before .before .before .before .refused .ensures, c .before .before .before .before .before .before .before .before .before .before .before .before .before .before .before .before .before .before .before .before .before .before .before .before .before .before .if1 .left, ← (rw (c .before .before .before .before .before .before .before .before .before .before .before .before .before .before .before .before .before .before .before .before .before .before .s .given .1) at (c .before .before .before .before .before .before .before .before .before .before .before .before .before .before .before .before .before .before .before .before .before .before .before .before .start-of .ensures)), ← (rw (c .before .before .before .before .before .before .before .before .before .before .before .before .before .before .before .before .before .v .given .1) at (c .before .before .before .before .before .before .before .before .before .before .before .before .before .before .before .before .before .before .before .end-of .ensures)), ← (rw (c .before .before .before .before .before .before .before .before .before .before .before .before .c .given .1) at (c .before .before .before .before .before .before .before .before .before .before .before .before .before .before .onward .ensures))) (c .before .before .before .before .before .before .dedupe-from .ensures .0), c .before .before .before .before .before .before .dedupe-from .ensures .1)
+returns-5 c =
+    let at-refused = c .before .before .before .before .before .before .before .before .before .before .before .before .before .before .before .before .before .before .before .before .before .before .before .before .before .before .before .refused in
+    let at-if1 = c .before .before .before .before .before .before .before .before .before .before .before .before .before .before .before .before .before .before .before .before .before .before .before .before .before .before .if1 in
+    let at-start-of = c .before .before .before .before .before .before .before .before .before .before .before .before .before .before .before .before .before .before .before .before .before .before .before .before .start-of in
+    let at-s = c .before .before .before .before .before .before .before .before .before .before .before .before .before .before .before .before .before .before .before .before .before .before .s in
+    let at-end-of = c .before .before .before .before .before .before .before .before .before .before .before .before .before .before .before .before .before .before .before .end-of in
+    let at-v = c .before .before .before .before .before .before .before .before .before .before .before .before .before .before .before .before .before .v in
+    let at-onward = c .before .before .before .before .before .before .before .before .before .before .before .before .before .before .onward in
+    let at-c = c .before .before .before .before .before .before .before .before .before .before .before .before .c in
+    let at-dedupe-from = c .before .before .before .before .before .before .dedupe-from in
+    (rw (← at-refused .ensures, at-if1 .left, ← (rw (at-s .given .1) at (at-start-of .ensures)), ← (rw (at-v .given .1) at (at-end-of .ensures)), ← (rw (at-c .given .1) at (at-onward .ensures))) (at-dedupe-from .ensures .0), at-dedupe-from .ensures .1)
 
 pub dedupe-step-spec : {M : Type 1} → statement M
 dedupe-step-spec =

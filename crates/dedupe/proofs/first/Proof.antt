@@ -1,5 +1,6 @@
 -- `dedupe::first` meets its contract: by where the search stops.
-use Rattle.dedupe.proofs.Places.{met-below, round-below, more-same, more-halted, halted-fits}
+use Rattle.searches.proofs.Places.{met-below, round-below}
+use Rattle.growth.proofs.More.{more-same, more-halted, halted-fits}
 use borrow.Author.Needs.{needs}
 use Rattle.dedupe.proofs.first.Statement.{statement}
 use Rattle.dedupe.proofs.first.Tie as tie

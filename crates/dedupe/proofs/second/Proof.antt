@@ -5,7 +5,7 @@ use Rattle.numbers.proofs.Names.{names-below}
 use Rattle.rows.specs.Halfedges.{pairOf}
 use Rattle.walks.proofs.Turns.{onward-below}
 use Rattle.dedupe.specs.Dedupe.{second}
-use Rattle.dedupe.proofs.Places.{more-same, more-halted}
+use Rattle.growth.proofs.More.{more-same, more-halted}
 use borrow.Author.Needs.{needs}
 use Rattle.dedupe.proofs.second.Statement.{statement}
 use Rattle.dedupe.proofs.second.Tie as tie

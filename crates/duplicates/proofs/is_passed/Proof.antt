@@ -12,14 +12,14 @@ mul-result c = search needs
 shared-slice-read-result : tie.Need-shared-slice-read-result
 shared-slice-read-result c = search needs
 
-started-requires : tie.Need-started-requires
-started-requires c κs = search needs
+is-started-requires : tie.Need-is-started-requires
+is-started-requires c κs = search needs
 
-ended-requires : tie.Need-ended-requires
-ended-requires c κs = search needs
+is-ended-requires : tie.Need-is-ended-requires
+is-ended-requires c κs = search needs
 
 returns : tie.Need-returns
-returns c = rw (c .ended .ensures, c .before .started .ensures, c .before .before .before .number .ensures)
+returns c = rw (c .is-ended .ensures, c .before .is-started .ensures, c .before .before .before .number .ensures)
 
 pub is-passed-spec : {M : Type 1} → statement M
 is-passed-spec =
@@ -28,6 +28,6 @@ is-passed-spec =
     number-requires
     mul-result
     shared-slice-read-result
-    started-requires
-    ended-requires
+    is-started-requires
+    is-ended-requires
     returns)

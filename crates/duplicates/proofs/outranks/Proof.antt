@@ -12,17 +12,11 @@ number-requires-2 c κs = search needs
 ends-in-requires : tie.Need-ends-in-requires
 ends-in-requires c κs = search needs
 
-number-requires-3 : tie.Need-number-requires-3
-number-requires-3 c κs = search needs
-
-number-requires-4 : tie.Need-number-requires-4
-number-requires-4 c κs = search needs
-
 same-end-requires : tie.Need-same-end-requires
 same-end-requires c κs = search needs
 
 returns : tie.Need-returns
-returns c = rw (c .before .before .before .ends-in .ensures, c .same-end .ensures, c .before .before .before .before .before .number .ensures, c .before .before .before .before .number2 .ensures, c .before .before .number3 .ensures, c .before .number4 .ensures)
+returns c = rw (c .before .ends-in .ensures, c .same-end .ensures, c .before .before .before .number .ensures, c .before .before .number2 .ensures)
 
 pub outranks-spec : {M : Type 1} → statement M
 outranks-spec =
@@ -31,7 +25,5 @@ outranks-spec =
     number-requires
     number-requires-2
     ends-in-requires
-    number-requires-3
-    number-requires-4
     same-end-requires
     returns)

@@ -5,9 +5,9 @@ use native.Mathlib.Omega.{arith}
 use lib.ListN.{length, take, drop}
 use lib.Seq.{length-take-le}
 use Rattle.growth.specs.Growth.{so-far, Fitting, More}
-use Rattle.dedupe.proofs.Places.{more-same}
+use Rattle.growth.proofs.More.{more-same, more-trans}
 use Rattle.rounds.specs.Rounds.{fix, each}
-use Rattle.rounds.proofs.Steps.{more-trans, each-on, each-done}
+use Rattle.rounds.proofs.Steps.{each-on, each-done}
 use borrow.Author.Needs.{needs}
 use Rattle.rounds.proofs.each.Statement.{statement}
 use Rattle.rounds.proofs.each.Tie as tie
@@ -48,10 +48,16 @@ loop-less c = omega arith
 
 loop-again : tie.Need-loop-again Inv-loop μ-loop
 loop-again c =
-    let s = c .before .before .before .before .before .before .before .before .before .before .before .before .before .before .before .before .before .before .args in
-    let i = c .before .before .before .before .before .before .before .before .before .before .before .before .before .before .loop .inv in
-    let e = rw (c .before .before .before .before .before .before .before .before .before .before .before .halfedge-counted .ensures) at (c .before .before .before .before .before .before .fix .ensures .0) in
-    (omega (arith, c .before .before .before .before .before .before .before .before .before .before .before .before .before .loop-test .taken), (ap (each (s .limits) (drop (c .before .before .before .before .before .before .before .before .before .before .before .before .before .before .loop .k + 1) (take (s .count) (s .list .now)))) e ∙ each-on (s .limits) (s .list .now) (s .count) (c .before .before .before .before .before .before .before .before .before .before .before .before .before .before .loop .k) _ (c .before .before .before .before .before .before .before .before .before .before .before .before .before .loop-test .taken) (c .before .before .before .before .before .before .before .before .before .before .before .before .before .before .before .before .before .before .pre .0) (length-take-le (s .count) (s .list .now) (c .before .before .before .before .before .before .before .before .before .before .before .before .before .before .before .before .before .before .pre .0)) ∙ i .1 .0, ((more-trans (i .1 .1 .0 .0) (c .before .before .before .before .before .before .fix .ensures .1 .0), c .before .before .before .before .before .before .fix .ensures .1 .1), (c .before .before .before .before .before .before .fix .kept .0 ∙ i .1 .1 .1 .0, (c .before .before .before .before .before .before .fix .kept .1 .0 ∙ i .1 .1 .1 .1 .0, (c .before .before .before .before .before .before .fix .kept .1 .1 .0 ∙ i .1 .1 .1 .1 .1 .0, c .before .before .before .before .before .before .fix .kept .1 .1 .1 .0 ∙ i .1 .1 .1 .1 .1 .1))))))
+    let at-args = c .before .before .before .before .before .before .before .before .before .before .before .before .before .before .before .before .before .before .args in
+    let at-pre = c .before .before .before .before .before .before .before .before .before .before .before .before .before .before .before .before .before .before .pre in
+    let at-loop = c .before .before .before .before .before .before .before .before .before .before .before .before .before .before .loop in
+    let at-loop-test = c .before .before .before .before .before .before .before .before .before .before .before .before .before .loop-test in
+    let at-halfedge-counted = c .before .before .before .before .before .before .before .before .before .before .before .halfedge-counted in
+    let at-fix = c .before .before .before .before .before .before .fix in
+    let s = at-args in
+    let i = at-loop .inv in
+    let e = rw (at-halfedge-counted .ensures) at (at-fix .ensures .0) in
+    (omega (arith, at-loop-test .taken), (ap (each (s .limits) (drop (at-loop .k + 1) (take (s .count) (s .list .now)))) e ∙ each-on (s .limits) (s .list .now) (s .count) (at-loop .k) _ (at-loop-test .taken) (at-pre .0) (length-take-le (s .count) (s .list .now) (at-pre .0)) ∙ i .1 .0, ((more-trans (i .1 .1 .0 .0) (at-fix .ensures .1 .0), at-fix .ensures .1 .1), (at-fix .kept .0 ∙ i .1 .1 .1 .0, (at-fix .kept .1 .0 ∙ i .1 .1 .1 .1 .0, (at-fix .kept .1 .1 .0 ∙ i .1 .1 .1 .1 .1 .0, at-fix .kept .1 .1 .1 .0 ∙ i .1 .1 .1 .1 .1 .1))))))
 
 same-length : tie.Need-same-length Inv-loop μ-loop
 same-length c = c .before .loop .inv .1 .1 .1 .0

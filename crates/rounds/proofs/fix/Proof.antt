@@ -1,7 +1,7 @@
 -- `rounds::fix` meets its contract: each return is by the tests met so far.
 use mathlib.Core.Path.{_∙_}
 use borrow.Author.Tests.{not-true, not-false}
-use Rattle.dedupe.proofs.Places.{more-same}
+use Rattle.growth.proofs.More.{more-same}
 use Rattle.rounds.specs.Rounds.{fix}
 use borrow.Author.Needs.{needs}
 use Rattle.rounds.proofs.fix.Statement.{statement}

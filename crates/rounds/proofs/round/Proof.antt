@@ -5,7 +5,7 @@ use Prim.Native.Nat.{ℕ}
 use native.Mathlib.Omega.{arith}
 use Rattle.growth.specs.Growth.{so-far}
 use Rattle.duplicates.proofs.Found.{found-count, found-fits, found-front, found-in, found-beyond}
-use Rattle.dedupe.proofs.Places.{more-same}
+use Rattle.growth.proofs.More.{more-same}
 use Rattle.rounds.specs.Rounds.{each, on, round}
 use Rattle.rounds.proofs.Steps.{round-none, round-some}
 use borrow.Author.Needs.{needs}

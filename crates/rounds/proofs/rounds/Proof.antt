@@ -3,9 +3,9 @@ use mathlib.Core.Path.{_≡_, refl, _∙_}
 use native.Mathlib.Omega.{arith}
 use lib.ListN.{length, drop}
 use Rattle.growth.specs.Growth.{so-far, Fitting, More}
-use Rattle.dedupe.proofs.Places.{more-same}
+use Rattle.growth.proofs.More.{more-same, more-trans}
 use Rattle.rounds.specs.Rounds.{round, rounds}
-use Rattle.rounds.proofs.Steps.{more-trans, rounds-last, rounds-on, rounds-none}
+use Rattle.rounds.proofs.Steps.{rounds-last, rounds-on, rounds-none}
 use borrow.Author.Needs.{needs}
 use Rattle.rounds.proofs.rounds.Statement.{statement}
 use Rattle.rounds.proofs.rounds.Tie as tie
@@ -64,9 +64,14 @@ loop-less c = omega (arith, c .before .before .before .before .before .before .b
 
 loop-again : tie.Need-loop-again Inv-loop μ-loop
 loop-again c =
-    let i = c .before .before .before .before .before .before .before .before .before .before .before .before .before .before .before .before .before .before .before .before .before .loop .inv in
-    let e = rw (c .before .g .given .1) at (c .before .before .before .before .before .before .before .before .before .before .before .before .before .round .ensures) in
-    (rounds-on (c .before .before .before .before .before .before .before .before .before .before .before .before .before .before .before .before .before .before .before .before .before .before .before .before .before .before .args .limits) (c .before .before .before .before .before .before .before .before .before .before .before .before .before .before .before .before .before .before .before .before .before .loop .left) _ (c .before .before .before .before .before .before .before .before .before .before .before .before .before .before .before .before .before .before .before .before .loop-test .taken) _ (e .0) ∙ i .0, ((more-trans (i .1 .0 .0) (e .1 .0 .0), e .1 .0 .1), ((c .before .before .before .before .before .before .before .before .before .before .before .before .before .round .kept .0 ∙ i .1 .1 .0 .0, (c .before .before .before .before .before .before .before .before .before .before .before .before .before .round .kept .1 .0 ∙ i .1 .1 .0 .1 .0, (c .before .before .before .before .before .before .before .before .before .before .before .before .before .round .kept .1 .1 .0 ∙ i .1 .1 .0 .1 .1 .0, (c .before .before .before .before .before .before .before .before .before .before .before .before .before .round .kept .1 .1 .1 .0 ∙ i .1 .1 .0 .1 .1 .1 .0, (c .before .before .before .before .before .before .before .before .before .before .before .before .before .round .kept .1 .1 .1 .1 .0 ∙ i .1 .1 .0 .1 .1 .1 .1 .0, c .before .before .before .before .before .before .before .before .before .before .before .before .before .round .kept .1 .1 .1 .1 .1 .0 ∙ i .1 .1 .0 .1 .1 .1 .1 .1))))), (e .1 .1 .0 ∙ i .1 .1 .1 .0, e .1 .1 .1 ∙ i .1 .1 .1 .1))))
+    let at-args = c .before .before .before .before .before .before .before .before .before .before .before .before .before .before .before .before .before .before .before .before .before .before .before .before .before .before .args in
+    let at-loop = c .before .before .before .before .before .before .before .before .before .before .before .before .before .before .before .before .before .before .before .before .before .loop in
+    let at-loop-test = c .before .before .before .before .before .before .before .before .before .before .before .before .before .before .before .before .before .before .before .before .loop-test in
+    let at-round = c .before .before .before .before .before .before .before .before .before .before .before .before .before .round in
+    let at-g = c .before .g in
+    let i = at-loop .inv in
+    let e = rw (at-g .given .1) at (at-round .ensures) in
+    (rounds-on (at-args .limits) (at-loop .left) _ (at-loop-test .taken) _ (e .0) ∙ i .0, ((more-trans (i .1 .0 .0) (e .1 .0 .0), e .1 .0 .1), ((at-round .kept .0 ∙ i .1 .1 .0 .0, (at-round .kept .1 .0 ∙ i .1 .1 .0 .1 .0, (at-round .kept .1 .1 .0 ∙ i .1 .1 .0 .1 .1 .0, (at-round .kept .1 .1 .1 .0 ∙ i .1 .1 .0 .1 .1 .1 .0, (at-round .kept .1 .1 .1 .1 .0 ∙ i .1 .1 .0 .1 .1 .1 .1 .0, at-round .kept .1 .1 .1 .1 .1 .0 ∙ i .1 .1 .0 .1 .1 .1 .1 .1))))), (e .1 .1 .0 ∙ i .1 .1 .1 .0, e .1 .1 .1 ∙ i .1 .1 .1 .1))))
 
 same-length-7 : tie.Need-same-length-7 Inv-loop μ-loop
 same-length-7 c = c .before .before .loop .inv .1 .1 .0 .0

@@ -43,16 +43,10 @@ number-requires c κs = search needs
 number-requires-2 : tie.Need-number-requires-2 Inv-fan μ-fan
 number-requires-2 c κs = search needs
 
-number-requires-3 : tie.Need-number-requires-3 Inv-fan μ-fan
-number-requires-3 c κs = search needs
-
-number-requires-4 : tie.Need-number-requires-4 Inv-fan μ-fan
-number-requires-4 c κs = search needs
-
 same-end-requires : tie.Need-same-end-requires Inv-fan μ-fan
 same-end-requires c κs =
-    let b = next-in _ _ (names-below (pairOf (c .before .before .before .before .before .before .before .before .before .before .before .before .args .rows .now) (c .before .before .before .before .before .before .before .before .before .before .before .fan .at .0)) (c .before .before .before .before .before .before .before .before .before .before .before .before .args .halfedges) (sym (c .before .before .before .before .before .before .before .before .before .pair-of .ensures) ∙ ap halfedgeNamed (c .before .before .before .before .before .before .before .p .given .1))) (c .before .before .before .before .before .before .before .before .before .before .before .before .pre .1 .0) in
-    omega (arith, b, c .before .before .before .before .before .before .before .before .before .before .before .before .pre .0, c .before .before .before .before .before .before .before .before .before .before .before .before .pre .1 .1 .0, c .before .number3 .ensures, c .number4 .ensures, c .before .before .before .before .before .next .ensures)
+    let b = next-in _ _ (names-below (pairOf (c .before .before .before .before .before .before .before .before .before .before .args .rows .now) (c .before .before .before .before .before .before .before .before .before .fan .at .0)) (c .before .before .before .before .before .before .before .before .before .before .args .halfedges) (sym (c .before .before .before .before .before .before .before .pair-of .ensures) ∙ ap halfedgeNamed (c .before .before .before .before .before .p .given .1))) (c .before .before .before .before .before .before .before .before .before .before .pre .1 .0) in
+    omega (arith, b, c .before .before .before .before .before .before .before .before .before .before .pre .0, c .before .before .before .before .before .before .before .before .before .before .pre .1 .1 .0, c .before .before .before .next .ensures)
 
 sub-left : tie.Need-sub-left Inv-fan μ-fan
 sub-left c = omega arith
@@ -62,9 +56,20 @@ fan-less c = omega arith
 
 fan-again : tie.Need-fan-again Inv-fan μ-fan
 fan-again c =
-    let s = c .before .before .before .before .before .before .before .before .before .before .before .before .before .before .args in
-    let a = sym (c .before .before .before .before .before .before .before .before .before .before .before .pair-of .ensures) ∙ ap halfedgeNamed (c .before .before .before .before .before .before .before .before .before .p .given .1) in
-    (rw (c .before .before .before .before .before .before .before .next .ensures) (next-in _ _ (names-below (pairOf (c .before .before .before .before .before .before .before .before .before .before .before .before .before .before .args .rows .now) (c .before .before .before .before .before .before .before .before .before .before .before .before .before .fan .at .0)) (c .before .before .before .before .before .before .before .before .before .before .before .before .before .before .args .halfedges) (sym (c .before .before .before .before .before .before .before .before .before .before .before .pair-of .ensures) ∙ ap halfedgeNamed (c .before .before .before .before .before .before .before .before .before .p .given .1))) (c .before .before .before .before .before .before .before .before .before .before .before .before .before .before .pre .1 .0)), rw (c .before .before .before .before .before .before .before .next .ensures) (again-on (s .halfedges) (s .e .0) (s .rows .now) _ _ (c .before .before .before .before .before .before .before .before .before .before .before .before .if1 .left) _ a (λ h. c .before .before .before .before .if2 .left (c .before .before .before .before .before .before .number .ensures ∙ c .before .before .before .before .before .before .before .next .ensures ∙ h ∙ sym (c .before .before .before .before .before .number2 .ensures))) (rw (c .before .before .before .number3 .ensures, c .before .before .number4 .ensures, c .before .before .before .before .before .before .before .next .ensures) at (sym (c .before .same-end .ensures) ∙ c .if3 .left)) ∙ c .before .before .before .before .before .before .before .before .before .before .before .before .before .fan .inv .1))
+    let at-args = c .before .before .before .before .before .before .before .before .before .before .before .before .args in
+    let at-pre = c .before .before .before .before .before .before .before .before .before .before .before .before .pre in
+    let at-fan = c .before .before .before .before .before .before .before .before .before .before .before .fan in
+    let at-if1 = c .before .before .before .before .before .before .before .before .before .before .if1 in
+    let at-pair-of = c .before .before .before .before .before .before .before .before .before .pair-of in
+    let at-p = c .before .before .before .before .before .before .before .p in
+    let at-next = c .before .before .before .before .before .next in
+    let at-number = c .before .before .before .before .number in
+    let at-number2 = c .before .before .before .number2 in
+    let at-if2 = c .before .before .if2 in
+    let at-same-end = c .before .same-end in
+    let s = at-args in
+    let a = sym (at-pair-of .ensures) ∙ ap halfedgeNamed (at-p .given .1) in
+    (rw (at-next .ensures) (next-in _ _ (names-below (pairOf (at-args .rows .now) (at-fan .at .0)) (at-args .halfedges) (sym (at-pair-of .ensures) ∙ ap halfedgeNamed (at-p .given .1))) (at-pre .1 .0)), rw (at-next .ensures) (again-on (s .halfedges) (s .e .0) (s .rows .now) _ _ (at-if1 .left) _ a (λ h. at-if2 .left (at-number .ensures ∙ at-next .ensures ∙ h ∙ sym (at-number2 .ensures))) (rw (at-next .ensures) at (sym (at-same-end .ensures) ∙ c .if3 .left)) ∙ at-fan .inv .1))
 
 returns : tie.Need-returns Inv-fan μ-fan
 returns c = let s = c .before .before .args in again-tired (s .halfedges) (s .e .0) (s .rows .now) _ _ (c .if1 .taken) ∙ c .before .fan .inv .1
@@ -80,9 +85,9 @@ returns-3 c =
 
 returns-4 : tie.Need-returns-4 Inv-fan μ-fan
 returns-4 c =
-    let s = c .before .before .before .before .before .before .before .before .before .before .before .before .before .before .args in
-    let a = sym (c .before .before .before .before .before .before .before .before .before .before .before .pair-of .ensures) ∙ ap halfedgeNamed (c .before .before .before .before .before .before .before .before .before .p .given .1) in
-    again-met (s .halfedges) (s .e .0) (s .rows .now) _ _ (c .before .before .before .before .before .before .before .before .before .before .before .before .if1 .left) _ a (λ h. c .before .before .before .before .if2 .left (c .before .before .before .before .before .before .number .ensures ∙ c .before .before .before .before .before .before .before .next .ensures ∙ h ∙ sym (c .before .before .before .before .before .number2 .ensures))) (rw (c .before .before .before .number3 .ensures, c .before .before .number4 .ensures, c .before .before .before .before .before .before .before .next .ensures) at (sym (c .before .same-end .ensures) ∙ c .if3 .taken)) ∙ c .before .before .before .before .before .before .before .before .before .before .before .before .before .fan .inv .1
+    let s = c .before .before .before .before .before .before .before .before .before .before .before .before .args in
+    let a = sym (c .before .before .before .before .before .before .before .before .before .pair-of .ensures) ∙ ap halfedgeNamed (c .before .before .before .before .before .before .before .p .given .1) in
+    again-met (s .halfedges) (s .e .0) (s .rows .now) _ _ (c .before .before .before .before .before .before .before .before .before .before .if1 .left) _ a (λ h. c .before .before .if2 .left (c .before .before .before .before .number .ensures ∙ c .before .before .before .before .before .next .ensures ∙ h ∙ sym (c .before .before .before .number2 .ensures))) (rw (c .before .before .before .before .before .next .ensures) at (sym (c .before .same-end .ensures) ∙ c .if3 .taken)) ∙ c .before .before .before .before .before .before .before .before .before .before .before .fan .inv .1
 
 pub meets-again-spec : {M : Type 1} → statement M
 meets-again-spec =
@@ -98,8 +103,6 @@ meets-again-spec =
     next-requires
     number-requires
     number-requires-2
-    number-requires-3
-    number-requires-4
     same-end-requires
     sub-left
     fan-less

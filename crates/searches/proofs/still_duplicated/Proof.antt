@@ -4,23 +4,20 @@ use borrow.Author.Needs.{needs}
 use Rattle.searches.proofs.still_duplicated.Statement.{statement}
 use Rattle.searches.proofs.still_duplicated.Tie as tie
 
-number-requires : tie.Need-number-requires
-number-requires c κs = search needs
+is-started-requires : tie.Need-is-started-requires
+is-started-requires c κs = search needs
 
-started-requires : tie.Need-started-requires
-started-requires c κs = search needs
-
-ended-requires : tie.Need-ended-requires
-ended-requires c κs = search needs
+is-ended-requires : tie.Need-is-ended-requires
+is-ended-requires c κs = search needs
 
 meets-again-requires : tie.Need-meets-again-requires
 meets-again-requires c κs = search needs
 
 returns : tie.Need-returns
 unfolding still
-returns c = rw (c .meets-again .ensures, c .before .ended .ensures, c .before .before .started .ensures, c .before .before .before .number .ensures)
+returns c = rw (c .meets-again .ensures, c .before .is-ended .ensures, c .before .before .is-started .ensures)
 
 pub still-duplicated-spec : {M : Type 1} → statement M
 still-duplicated-spec =
     tie.close
-    (tie.spec number-requires started-requires ended-requires meets-again-requires returns)
+    (tie.spec is-started-requires is-ended-requires meets-again-requires returns)

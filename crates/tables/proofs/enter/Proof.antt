@@ -43,7 +43,16 @@ lesser-requires : tie.Need-lesser-requires
 lesser-requires c κs = omega (arith, c .before .before .before .before .before .before .before .before .before .before .before .before .number .ensures, c .before .before .before .before .before .before .before .before .before .before .before .before .before .before .pre .0 .1)
 
 place-requires : tie.Need-place-requires
-place-requires c κs = (omega (arith, c .before .before .before .before .number2 .ensures, names-below (endOf (c .before .before .before .before .before .before .before .before .before .before .before .before .before .before .before .args .rows .now) (c .before .before .before .before .before .before .before .before .before .before .before .before .before .before .before .args .c .0)) (c .before .before .before .before .before .before .before .before .before .before .before .before .before .before .before .args .vertices) (sym (c .before .before .before .before .before .before .before .before .end-of .ensures) ∙ ap vertexNamed (c .before .before .before .before .before .before .end .given .1)), c .before .before .before .before .before .before .before .before .before .before .before .see .kept .0, c .before .before .before .before .before .before .before .before .before .before .before .before .before .before .before .pre .1 .1), rw (c .lesser .ensures) (lesser-bound (c .before .before .entry-at .result) (c .before .before .before .before .before .before .before .before .before .before .before .before .before .number .result) entry-limit (omega (arith, c .before .before .entry-at .ensures)) (omega (arith, c .before .before .before .before .before .before .before .before .before .before .before .before .before .number .ensures, c .before .before .before .before .before .before .before .before .before .before .before .before .before .before .before .pre .0 .1))))
+place-requires c κs =
+    let at-args = c .before .before .before .before .before .before .before .before .before .before .before .before .before .before .before .args in
+    let at-pre = c .before .before .before .before .before .before .before .before .before .before .before .before .before .before .before .pre in
+    let at-number = c .before .before .before .before .before .before .before .before .before .before .before .before .before .number in
+    let at-see = c .before .before .before .before .before .before .before .before .before .before .before .see in
+    let at-end-of = c .before .before .before .before .before .before .before .before .end-of in
+    let at-end = c .before .before .before .before .before .before .end in
+    let at-number2 = c .before .before .before .before .number2 in
+    let at-entry-at = c .before .before .entry-at in
+    (omega (arith, at-number2 .ensures, names-below (endOf (at-args .rows .now) (at-args .c .0)) (at-args .vertices) (sym (at-end-of .ensures) ∙ ap vertexNamed (at-end .given .1)), at-see .kept .0, at-pre .1 .1), rw (c .lesser .ensures) (lesser-bound (at-entry-at .result) (at-number .result) entry-limit (omega (arith, at-entry-at .ensures)) (omega (arith, at-number .ensures, at-pre .0 .1))))
 
 same-length-2 : tie.Need-same-length-2
 same-length-2 c = c .before .before .place .kept .0 ∙ c .before .before .before .before .before .before .before .before .before .before .before .before .before .before .see .kept .0

@@ -35,8 +35,14 @@ loop-less c = omega arith
 
 loop-again : tie.Need-loop-again Inv-loop μ-loop
 loop-again c =
-    let s = c .before .before .before .before .before .before .before .before .before .before .before .before .args in
-    (tabling-on (s .halfedges) (s .vertices) (s .capacity) (s .rows .now) (c .before .before .before .before .before .before .before .before .before .before .before .before .pre .0 .1 .1) (c .before .before .before .before .before .before .before .before .before .before .before .before .pre .1 .0 .0) (c .before .before .before .before .before .before .before .before .before .before .before .before .pre .1 .0 .1) _ _ (c .before .before .before .before .before .before .before .before .before .loop .inv .0) (c .before .before .before .before .before .before .before .before .loop-test .taken) (c .before .before .before .before .before .before .before .before .before .before .before .before .pre .0 .0) (c .before .before .before .before .before .before .before .before .before .before .before .before .pre .1 .1 .0 .0) _ _ (rw (c .before .before .before .before .before .before .before .halfedge-counted .ensures) at (c .before .before .before .before .table-row .ensures)), c .before .before .before .before .table-row .kept .1 .1 .0 ∙ c .before .before .before .before .before .before .before .before .before .loop .inv .1)
+    let at-args = c .before .before .before .before .before .before .before .before .before .before .before .before .args in
+    let at-pre = c .before .before .before .before .before .before .before .before .before .before .before .before .pre in
+    let at-loop = c .before .before .before .before .before .before .before .before .before .loop in
+    let at-loop-test = c .before .before .before .before .before .before .before .before .loop-test in
+    let at-halfedge-counted = c .before .before .before .before .before .before .before .halfedge-counted in
+    let at-table-row = c .before .before .before .before .table-row in
+    let s = at-args in
+    (tabling-on (s .halfedges) (s .vertices) (s .capacity) (s .rows .now) (at-pre .0 .1 .1) (at-pre .1 .0 .0) (at-pre .1 .0 .1) _ _ (at-loop .inv .0) (at-loop-test .taken) (at-pre .0 .0) (at-pre .1 .1 .0 .0) _ _ (rw (at-halfedge-counted .ensures) at (at-table-row .ensures)), at-table-row .kept .1 .1 .0 ∙ at-loop .inv .1)
 
 same-length : tie.Need-same-length Inv-loop μ-loop
 same-length c = c .before .loop .inv .0 .kept .long
