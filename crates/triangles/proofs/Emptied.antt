@@ -20,6 +20,10 @@ use Rattle.triangles.specs.Triangles.{emptied, collapsed, collapse, Outs
 use Rattle.triangles.proofs.Parts.{second-in, third-in}
 
 module _ (e : ℕ) (l : List ℤ) where
+  pub emptied-prop : (g : ℕ) → column prop (emptied e l) g ≡ column prop l g
+  unfolding emptied
+  emptied-prop g = empty-prop (next (next e)) _ g ∙ empty-prop (next e) _ g ∙ empty-prop e l g
+
   pub length-emptied : length (emptied e l) ≡ length l
   unfolding emptied
   length-emptied = length-empty (next (next e)) _ ∙ length-empty (next e) _ ∙ length-empty e l
@@ -27,10 +31,6 @@ module _ (e : ℕ) (l : List ℤ) where
   pub emptied-other : (c : Column) (g : ℕ) → Outside e g → column c (emptied e l) g ≡ column c l g
   unfolding emptied
   emptied-other c g o = empty-other (next (next e)) _ c g (o .not-third) ∙ empty-other (next e) _ c g (o .not-second) ∙ empty-other e l c g (o .not-first)
-
-  pub emptied-prop : (g : ℕ) → column prop (emptied e l) g ≡ column prop l g
-  unfolding emptied
-  emptied-prop g = empty-prop (next (next e)) _ g ∙ empty-prop (next e) _ g ∙ empty-prop e l g
 
   module _ (H : ℕ) (b : e < H) (thirds : H % 3 ≡ 0) where
     pub emptied-free : rows-from H (emptied e l) ≡ rows-from H l

@@ -4,7 +4,7 @@ use mathlib.Core.Bool.{true, false}
 use mathlib.Core.List.{List}
 use Prim.Native.Nat.{ℕ, zero, suc, _%_, _<_}
 use lib.Dec.{eqb}
-use lib.IntN.{ℤ, pos}
+use lib.IntN.{ℤ}
 use lib.ListN.{length}
 use Rattle.laws.proofs.Tests.{by-test}
 use Rattle.numbers.specs.Numbers.{Named, at, nothing, named-or}
@@ -21,15 +21,15 @@ use Rattle.walks.proofs.Turns.{onward-below}
 module _ (v h : ℕ) (rows : List ℤ) where
   pub length-moved : length (moved v h rows) ≡ length rows
   unfolding moved
-  length-moved = length-written start (next h) (pos v) _ ∙ length-written end h (pos v) rows
+  length-moved = length-written start (next h) _ _ ∙ length-written end h _ rows
 
   pub moved-below : (H : ℕ) → H % 3 ≡ 0 → h < H → rows-from H (moved v h rows) ≡ rows-from H rows
   unfolding moved
-  moved-below H thirds b = written-below start (next h) H (pos v) _ (next-in h H b thirds) ∙ written-below end h H (pos v) rows b
+  moved-below H thirds b = written-below start (next h) H _ _ (next-in h H b thirds) ∙ written-below end h H _ rows b
 
   pub other-moved : (c : Column) → (offset c ≡ offset start → ⊥) → (offset c ≡ offset end → ⊥) → (g : ℕ) → column c (moved v h rows) g ≡ column c rows g
   unfolding moved
-  other-moved c s e g = other-column c start (next h) g (pos v) _ s ∙ other-column c end h g (pos v) rows e
+  other-moved c s e g = other-column c start (next h) g _ _ s ∙ other-column c end h g _ rows e
 
 -- what every move keeps, the walk keeps
 pub walk-keeps : {Q : List ℤ → Type 0} (H v to : ℕ) → ((l : List ℤ) (h : ℕ) → h < H → Q l → Q (moved v h l)) → (n : ℕ) (l : List ℤ) (here : ℕ) → here < H → Q l → Q (walk-to H n v here to l .rows)

@@ -30,20 +30,20 @@ use Rattle.walks.proofs.Kept.{length-moved, other-moved}
 module _ (v h : ℕ) (rows : List ℤ) where
   pub moved-end : h < lent-halfedges rows → endOf (moved v h rows) h ≡ pos v
   unfolding moved
-  moved-end b = other-column end start (next h) h (pos v) _ (λ e. omega arith) ∙ column-written end h (pos v) rows b
+  moved-end b = other-column end start (next h) h _ _ (λ e. omega arith) ∙ column-written end h _ rows b
 
   pub moved-start : next h < lent-halfedges rows → startOf (moved v h rows) (next h) ≡ pos v
   unfolding moved
-  moved-start b = column-written start (next h) (pos v) _ (rw (length-written end h (pos v) rows) b)
+  moved-start b = column-written start (next h) _ _ (rw (length-written end h (pos v) rows) b)
 
   pub unmoved-end : (g : ℕ) → (g ≡ h → ⊥) → endOf (moved v h rows) g ≡ endOf rows g
   unfolding moved
-  unmoved-end g n = other-column end start (next h) g (pos v) _ (λ e. omega arith) ∙ other-row end end h g (pos v) rows n
+  unmoved-end g n = other-column end start (next h) g _ _ (λ e. omega arith) ∙ other-row end end h g _ rows n
 
   pub unmoved-start : (g : ℕ) → (g ≡ h → ⊥) → startOf (moved v h rows) (next g) ≡ startOf rows (next g)
   unfolding moved
   unmoved-start g n =
-      other-row start start (next h) (next g) (pos v) _ (λ e. n (next-inj g h e)) ∙ other-column start end h (next g) (pos v) rows (λ e. omega arith)
+      other-row start start (next h) (next g) _ _ (λ e. n (next-inj g h e)) ∙ other-column start end h (next g) _ rows (λ e. omega arith)
 
 module _ (H N : ℕ) (rows : List ℤ) (thirds : H % 3 ≡ 0) (lent : H ≤ lent-halfedges rows) (in-order : (h : ℕ) → h < H → InOrder H N rows h) where
   pub move-live : {h : ℕ} → Live H rows h → Live H rows (move rows h)
