@@ -3,6 +3,7 @@
 use mathlib.Core.Path.{_≡_, refl, sym, ap, _∙_, subst}
 use mathlib.Core.Logic.{_⊎_, inl, inr}
 use Prim.Native.Nat.{ℕ, _+_, _<_, _≤_}
+use native.Mathlib.Omega.{arith}
 use borrow.Author.Tests.{eq-eqb}
 use lib.IntN.{pos}
 use Rattle.numbers.specs.Next.{next}
@@ -81,7 +82,7 @@ module _ (l : Limits) (e v least : ℕ) (w : Growing) (g : Went l e v least w) (
 
       lacks : (l .vertices ≤ g .N) ⊎ (l .halfedges < g .H + 6) → Lacks l e now
       lacks (inl b) = no-vertex b
-      lacks (inr b) = no-triangles c meets b
+      lacks (inr b) = no-triangles c meets (omega arith)
   first-left p (inr (z, m)) = rw z (ending (copy-left l e v least w g e (g .e-live)))
     where
       alone : Alone (g .rows) e
