@@ -26,9 +26,9 @@ use Rattle.folds.specs.Folds.{nan, lose, lose-folded, has-pair, outer-pa
 abbrev pub Fits : Middle → Type 0
 Fits m = m .run .vertices ≤ lent-triples (m .positions)
 
-pub length-cleared : (h : ℕ) (l : List ℤ) → length (gone-row h l) ≡ length l
+pub length-gone : (h : ℕ) (l : List ℤ) → length (gone-row h l) ≡ length l
 unfolding gone-row
-length-cleared h l = length-written prop h none _ ∙ length-empty h l
+length-gone h l = length-written prop h _ _ ∙ length-empty h l
 
 module _ {H : ℕ} where
   -- the start of a row is lost
@@ -71,16 +71,16 @@ module _ {H : ℕ} where
       frame-rows m _ (m .run .how) (y .behind H b-in c-in ∙ x .behind H a-in d-in) (y .same-length ∙ x .same-length))
       (frame-ended m Stopped)) (frame-ended m Stopped)) (frame-ended m Stopped)) (frame-ended m Stopped))
 
-  pub cleared-free : (h : ℕ) (l : List ℤ) → h < H → rows-from H (gone-row h l) ≡ rows-from H l
+  pub gone-free : (h : ℕ) (l : List ℤ) → h < H → rows-from H (gone-row h l) ≡ rows-from H l
   unfolding gone-row
-  cleared-free h l b = written-below prop h H none _ b ∙ empty-below h l H b
+  gone-free h l b = written-below prop h H _ _ b ∙ empty-below h l H b
 
   frame-clear : (e e1 e2 : ℕ) (m : Middle) → e < H → e1 < H → e2 < H → Frame H m (clear e e1 e2 m)
   unfolding clear
   frame-clear e e1 e2 m b b1 b2 =
       frame-step m _ (frame-rows m _ (m .run .how)
-      (cleared-free e2 _ b2 ∙ cleared-free e1 _ b1 ∙ cleared-free e (m .halfedges) b)
-      (length-cleared e2 _ ∙ length-cleared e1 _ ∙ length-cleared e (m .halfedges)))
+      (gone-free e2 _ b2 ∙ gone-free e1 _ b1 ∙ gone-free e (m .halfedges) b)
+      (length-gone e2 _ ∙ length-gone e1 _ ∙ length-gone e (m .halfedges)))
 
 pub frame-fold : (H e : ℕ) (m : Middle) → e < H → H % 3 ≡ 0 → H ≤ lent-halfedges (m .halfedges) → Fits m → Frame H m (fold H e m)
 unfolding fold fold-at take-out

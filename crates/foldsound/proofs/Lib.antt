@@ -1,4 +1,4 @@
-pub mod Cleared
+pub mod Gone
 pub mod Lost
 pub mod Edge
 pub mod InOrder

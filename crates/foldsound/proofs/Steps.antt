@@ -20,7 +20,7 @@ use Rattle.net.proofs.Sound.{live-paired, live-row, next-live, partner-live, pa
 use Rattle.steps.specs.Steps.{Middle, running, Going, begin}
 use Rattle.folds.specs.Folds.{fold-rows, nan, lose, lose-folded, has-pair, outer-paired, join, clear, take-out, fold-at, fold}
 use Rattle.foldsound.specs.Removed.{SameOpposite, Former, Latter, Outer, TakenOut, Removed, both, only-former, only-latter, not-folded}
-use Rattle.foldsound.proofs.Cleared.{six, six-other, JoinedUp, joined-up, taken-out}
+use Rattle.foldsound.proofs.Gone.{six, six-other, JoinedUp, joined-up, taken-out}
 use Rattle.foldsound.proofs.Lost.{lost-one, lost-more}
 use Rattle.foldsound.proofs.Edge.{outer-flip, x-outer, y-outer}
 use Rattle.foldsound.proofs.InOrder.{removed-in-order}

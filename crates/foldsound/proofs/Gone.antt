@@ -1,4 +1,4 @@
--- What clearing a row, the three rows of a triangle and the rows of two leaves in every column of every row; and with it what
+-- What a row that is gone, the three rows of a triangle and the rows of two leave in every column of every row; and with it what
 -- taking two triangles out leaves, but for the pairs of the other rows.
 use mathlib.Core.Path.{_≡_, _∙_}
 use mathlib.Core.List.{List}
@@ -16,19 +16,19 @@ use Rattle.pairing.proofs.Told.{paired-up}
 use Rattle.triangles.specs.Triangles.{Outside}
 use Rattle.triangles.proofs.Parts.{second-in, third-in}
 use Rattle.folds.specs.Folds.{outer-paired, gone-row, gone-rows}
-use Rattle.folds.proofs.Kept.{length-cleared, cleared-free}
+use Rattle.folds.proofs.Kept.{length-gone, gone-free}
 use Rattle.foldsound.specs.Removed.{Outer, Gone, TakenOut}
 
 -- one row
 module _ (h : ℕ) (l : List ℤ) where
-  cleared-other : (c : Column) (g : ℕ) → (g ≡ h → ⊥) → column c (gone-row h l) g ≡ column c l g
+  gone-other : (c : Column) (g : ℕ) → (g ≡ h → ⊥) → column c (gone-row h l) g ≡ column c l g
   unfolding gone-row
-  cleared-other c g n = other-row c prop h g none _ n ∙ empty-other h l c g n
+  gone-other c g n = other-row c prop h g none _ n ∙ empty-other h l c g n
 
   module _ (room : h < lent-halfedges l) where
-    cleared-here : Gone (gone-row h l) h
+    gone-here : Gone (gone-row h l) h
     unfolding gone-row
-    cleared-here =
+    gone-here =
         let d = empty-here h l room in
         record {
           empty = record {
@@ -39,18 +39,18 @@ module _ (h : ℕ) (l : List ℤ) where
           prop-none = column-written prop h none (empty-row h l) (rw (length-empty h l) room);
         }
 
-    cleared-stays : (g : ℕ) → Gone l g → Gone (gone-row h l) g
-    cleared-stays g d = go (ℕ-discrete g h)
+    gone-stays : (g : ℕ) → Gone l g → Gone (gone-row h l) g
+    gone-stays g d = go (ℕ-discrete g h)
       where
         go : Dec (g ≡ h) → Gone (gone-row h l) g
-        go (yes e) = rw e cleared-here
+        go (yes e) = rw e gone-here
         go (no n) = record {
           empty = record {
-            start-none = cleared-other start g n ∙ d .empty .start-none;
-            end-none = cleared-other end g n ∙ d .empty .end-none;
-            pair-none = cleared-other pair g n ∙ d .empty .pair-none;
+            start-none = gone-other start g n ∙ d .empty .start-none;
+            end-none = gone-other end g n ∙ d .empty .end-none;
+            pair-none = gone-other pair g n ∙ d .empty .pair-none;
           };
-          prop-none = cleared-other prop g n ∙ d .prop-none;
+          prop-none = gone-other prop g n ∙ d .prop-none;
         }
 
 -- the triangle of e
@@ -65,38 +65,38 @@ module _ (e : ℕ) (l : List ℤ) where
   thrice = gone-rows e (next e) (next (next e)) l
 
   length-thrice : length thrice ≡ length l
-  length-thrice = length-cleared (next (next e)) twice ∙ length-cleared (next e) once ∙ length-cleared e l
+  length-thrice = length-gone (next (next e)) twice ∙ length-gone (next e) once ∙ length-gone e l
 
   thrice-other : (c : Column) (g : ℕ) → Outside e g → column c thrice g ≡ column c l g
   thrice-other c g o =
-      cleared-other (next (next e)) twice c g (o .not-third) ∙ cleared-other (next e) once c g (o .not-second) ∙ cleared-other e l c g (o .not-first)
+      gone-other (next (next e)) twice c g (o .not-third) ∙ gone-other (next e) once c g (o .not-second) ∙ gone-other e l c g (o .not-first)
 
   module _ (H : ℕ) (b : e < H) (thirds : H % 3 ≡ 0) where
     thrice-free : rows-from H thrice ≡ rows-from H l
     thrice-free =
-        cleared-free {H = H} (next (next e)) twice (third-in e H b thirds) ∙ cleared-free {H = H} (next e) once (second-in e H b thirds) ∙ cleared-free {H = H} e l b
+        gone-free {H = H} (next (next e)) twice (third-in e H b thirds) ∙ gone-free {H = H} (next e) once (second-in e H b thirds) ∙ gone-free {H = H} e l b
 
     module _ (lent : H ≤ lent-halfedges l) where
       first-lent : e < lent-halfedges l
       first-lent = omega arith
 
       second-lent : next e < lent-halfedges once
-      second-lent = rw (length-cleared e l) (omega (arith, second-in e H b thirds))
+      second-lent = rw (length-gone e l) (omega (arith, second-in e H b thirds))
 
       third-lent : next (next e) < lent-halfedges twice
-      third-lent = rw (length-cleared (next e) once, length-cleared e l) (omega (arith, third-in e H b thirds))
+      third-lent = rw (length-gone (next e) once, length-gone e l) (omega (arith, third-in e H b thirds))
 
       thrice-stays : (g : ℕ) → Gone l g → Gone thrice g
-      thrice-stays g d = cleared-stays (next (next e)) twice third-lent g (cleared-stays (next e) once second-lent g (cleared-stays e l first-lent g d))
+      thrice-stays g d = gone-stays (next (next e)) twice third-lent g (gone-stays (next e) once second-lent g (gone-stays e l first-lent g d))
 
       thrice-first : Gone thrice e
-      thrice-first = cleared-stays (next (next e)) twice third-lent e (cleared-stays (next e) once second-lent e (cleared-here e l first-lent))
+      thrice-first = gone-stays (next (next e)) twice third-lent e (gone-stays (next e) once second-lent e (gone-here e l first-lent))
 
       thrice-second : Gone thrice (next e)
-      thrice-second = cleared-stays (next (next e)) twice third-lent (next e) (cleared-here (next e) once second-lent)
+      thrice-second = gone-stays (next (next e)) twice third-lent (next e) (gone-here (next e) once second-lent)
 
       thrice-third : Gone thrice (next (next e))
-      thrice-third = cleared-here (next (next e)) twice third-lent
+      thrice-third = gone-here (next (next e)) twice third-lent
 
 -- both triangles
 module _ (e f : ℕ) (l : List ℤ) where
