@@ -1,7 +1,7 @@
 //! Times each entry beside the original Rust: the same nets, one run, the two sides by turns, by the thread's own clock, the best and the
 //! middle of the rounds. Writes SPEED.md and speed.svg into a folder.
 //!
-//! bench FOLDER [TRIANGLES [COMPILERS [PROCESSOR]]]: on nets of at most so many triangles; the page names compilers and processor so
+//! bench FOLDER [TRIANGLES [COMPILERS [PROCESSOR [COMMIT]]]]: on nets of at most so many triangles; the page names compilers, processor and the state of the crates so
 #![allow(dead_code)]
 
 #[path = "../../harness/src/chance.rs"]
@@ -731,7 +731,7 @@ fn run(words: &[String]) {
     let mut courses = courses(most, &mut Chance::new(1));
     let mut page = String::from(OPENING);
     let named = |i: usize| words.get(i).map_or("not named", String::as_str);
-    let _ = writeln!(page, "\nProcessor: {}. Compilers: {}.", named(4), named(3));
+    let _ = writeln!(page, "\nProcessor: {}. Compilers: {}. The crates are those of commit {}.", named(4), named(3), named(5));
     let mut curves = vec![];
     let mut known = Known::new();
     for race in RACES {

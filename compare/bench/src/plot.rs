@@ -2,7 +2,7 @@
 
 use std::fmt::Write;
 
-const COLOURS: [&str; 7] = ["#1b6ca8", "#c0392b", "#e59866", "#27ae60", "#7dcea0", "#a9dfbf", "#8e44ad"];
+const COLOURS: [&str; 9] = ["#1b6ca8", "#c0392b", "#e59866", "#27ae60", "#7dcea0", "#a9dfbf", "#8e44ad", "#2c3e50", "#95a5a6"];
 
 /// Points of named curves, in order or shuffled (dashed): size in triangles, time in nanoseconds.
 pub fn drawn(points: &[(String, &str, f64, f64)]) -> String {
