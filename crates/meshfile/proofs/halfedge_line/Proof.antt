@@ -72,11 +72,23 @@ enum-told-5 c = search needs
 
 returns-5 : tie.Need-returns-5
 unfolding halfedge-step
-returns-5 c = rw (← (rw (c .before .before .before .before .before .before .before .before .before .before .before .before .before .before .before .before .a .given .1) at (c .before .before .before .before .before .before .before .before .before .before .before .before .before .before .before .before .before .before .word .ensures)), ← (rw (c .before .before .before .before .before .before .before .before .before .before .before .before .begin .given .1) at (c .before .before .before .before .before .before .before .before .before .before .before .before .before .before .number-then .ensures)), ← (rw (c .before .before .before .before .before .before .before .before .end .given .1) at (c .before .before .before .before .before .before .before .before .before .before .number-then2 .ensures)), ← (rw (c .before .before .before .before .pair .given .1) at (c .before .before .before .before .before .before .number-then3 .ensures)), ← (rw (c .enum-told5 .given .1) at (c .before .before .number-then4 .ensures)))
+returns-5 c =
+    let word-read = rw (c .before .before .before .before .before .before .before .before .before .before .before .before .before .before .before .before .a .given .1) at (c .before .before .before .before .before .before .before .before .before .before .before .before .before .before .before .before .before .before .word .ensures) in
+    let begin-read = rw (c .before .before .before .before .before .before .before .before .before .before .before .before .begin .given .1) at (c .before .before .before .before .before .before .before .before .before .before .before .before .before .before .number-then .ensures) in
+    let end-read = rw (c .before .before .before .before .before .before .before .before .end .given .1) at (c .before .before .before .before .before .before .before .before .before .before .number-then2 .ensures) in
+    let pair-read = rw (c .before .before .before .before .pair .given .1) at (c .before .before .before .before .before .before .number-then3 .ensures) in
+    let prop-read = rw (c .enum-told5 .given .1) at (c .before .before .number-then4 .ensures) in
+    rw (← word-read, ← begin-read, ← end-read, ← pair-read, ← prop-read)
 
 returns-6 : tie.Need-returns-6
 unfolding halfedge-step
-returns-6 c = rw (bits-back w32 (c .before .before .before .before .before .before .before .before .before .before .before .before .before .begin .given .0 .0) (c .before .before .before .before .before .before .before .before .before .before .before .before .known-told2 .given .0 .1), bits-back w32 (c .before .before .before .before .before .before .before .before .before .end .given .0 .0) (c .before .before .before .before .before .before .before .before .known-told3 .given .0 .1), bits-back w32 (c .before .before .before .before .before .pair .given .0 .0) (c .before .before .before .before .known-told4 .given .0 .1), bits-back w32 (c .before .prop .given .0 .0) (c .known-told5 .given .0 .1), ← (rw (c .before .before .before .before .before .before .before .before .before .before .before .before .before .before .before .before .before .a .given .1) at (c .before .before .before .before .before .before .before .before .before .before .before .before .before .before .before .before .before .before .before .word .ensures)), ← (rw (c .before .before .before .before .before .before .before .before .before .before .before .before .before .begin .given .1) at (c .before .before .before .before .before .before .before .before .before .before .before .before .before .before .before .number-then .ensures)), ← (rw (c .before .before .before .before .before .before .before .before .before .end .given .1) at (c .before .before .before .before .before .before .before .before .before .before .before .number-then2 .ensures)), ← (rw (c .before .before .before .before .before .pair .given .1) at (c .before .before .before .before .before .before .before .number-then3 .ensures)), ← (rw (c .before .prop .given .1) at (c .before .before .before .number-then4 .ensures)))
+returns-6 c =
+    let word-read = rw (c .before .before .before .before .before .before .before .before .before .before .before .before .before .before .before .before .before .a .given .1) at (c .before .before .before .before .before .before .before .before .before .before .before .before .before .before .before .before .before .before .before .word .ensures) in
+    let begin-read = rw (c .before .before .before .before .before .before .before .before .before .before .before .before .before .begin .given .1) at (c .before .before .before .before .before .before .before .before .before .before .before .before .before .before .before .number-then .ensures) in
+    let end-read = rw (c .before .before .before .before .before .before .before .before .before .end .given .1) at (c .before .before .before .before .before .before .before .before .before .before .before .number-then2 .ensures) in
+    let pair-read = rw (c .before .before .before .before .before .pair .given .1) at (c .before .before .before .before .before .before .before .number-then3 .ensures) in
+    let prop-read = rw (c .before .prop .given .1) at (c .before .before .before .number-then4 .ensures) in
+    rw (bits-back w32 (c .before .before .before .before .before .before .before .before .before .before .before .before .before .begin .given .0 .0) (c .before .before .before .before .before .before .before .before .before .before .before .before .known-told2 .given .0 .1), bits-back w32 (c .before .before .before .before .before .before .before .before .before .end .given .0 .0) (c .before .before .before .before .before .before .before .before .known-told3 .given .0 .1), bits-back w32 (c .before .before .before .before .before .pair .given .0 .0) (c .before .before .before .before .known-told4 .given .0 .1), bits-back w32 (c .before .prop .given .0 .0) (c .known-told5 .given .0 .1), ← word-read, ← begin-read, ← end-read, ← pair-read, ← prop-read)
 
 pub halfedge-line-spec : {M : Type 1} → statement M
 halfedge-line-spec =
