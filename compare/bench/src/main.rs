@@ -807,7 +807,7 @@ fn run(words: &[String]) {
 }
 
 // Why a figure that was wanted is passed, of the Arm that the page was written on.
-const CHECK_WHY: &str = " The figures wanted were set on an x86-64 on which the Rust's split took 96 to 110 ns a half-edge on the shuffled torus; on the Arm it takes little more than half of that, and the check, \
+const CHECK_WHY: &str = " The figures wanted were set on an x86-64 on which the Rust's split took 96 to 110 ns a half-edge on the shuffled torus; on the Arm it takes less than half of that, and the check, \
 whose reads of the partners do not wait for each other, gains less.";
 const SPLIT_WHY: &str = " Shuffled, the Rust's split gains more by the Arm's caches than ours: its marks are one byte a half-edge and stay there, our entries are four, and are written as the fans come; and the check reads each partner's row \
 once more. What the check takes by itself is in the table.";
