@@ -1,26 +1,38 @@
 // The exported functions called on stored calls: each prints what it says, and the buffers that it was lent as they are left.
-use calltext::show;
 use counttold::LoopAnswer;
 use counttold::OwnersAnswer;
 use counttold::SplitAnswer;
-use rowtold::RowAnswer;
+use libc::STDOUT_FILENO;
 use told::Point;
 use told::Used;
 
+// Writes the first n bytes of a text. Of what is written no contract can speak; the crates answertext and calltext say what the text is.
+pub fn print(text: &[u8], n: usize) {
+    if n <= text.len() {
+        io::write_all(STDOUT_FILENO, &text[..n]);
+    }
+}
+
 pub fn next_halfedge(numbers: &[i32; 8]) {
     let told = station::spoonferret_next_halfedge(numbers[0]);
-    show::number(b"next_halfedge", told.number);
-    show::signed(b" next=", told.next);
-    show::end();
+    let mut text = io::buffer();
+    let n = answertext::next(&mut text, 0, b"next_halfedge", told.number, told.next);
+    print(&text, n);
 }
 
 pub fn tri_of(numbers: &[i32; 8]) {
     let told = station::spoonferret_tri_of(numbers[0]);
-    show::number(b"tri_of", told.number);
-    show::signed(b" first=", told.first);
-    show::signed(b" second=", told.second);
-    show::signed(b" third=", told.third);
-    show::end();
+    let mut text = io::buffer();
+    let n = answertext::corners(
+        &mut text,
+        0,
+        b"tri_of",
+        told.number,
+        told.first,
+        told.second,
+        told.third,
+    );
+    print(&text, n);
 }
 
 fn point(x: u64, y: u64, z: u64) -> Point {
@@ -31,22 +43,28 @@ fn point(x: u64, y: u64, z: u64) -> Point {
     }
 }
 
-pub fn short_test(numbers: &[i32; 8], asked: &[u64; 8]) {
+pub fn short_test(numbers: &[i32; 8], asked: &[u64; 12]) {
     let from = point(asked[0], asked[1], asked[2]);
     let to = point(asked[3], asked[4], asked[5]);
     let tol = floats::float_of(asked[6]);
     let epsilon = floats::float_of(asked[7]);
     let told = station::spoonferret_short_test(from, to, numbers[0], numbers[1], tol, epsilon);
-    show::number(b"short_test", told.number);
-    show::count(b" squared_length=", told.squared_length);
-    show::count(b" limit=", told.limit);
-    show::end();
+    let mut text = io::buffer();
+    let n = answertext::lengths(
+        &mut text,
+        0,
+        b"short_test",
+        told.number,
+        told.squared_length,
+        told.limit,
+    );
+    print(&text, n);
 }
 
-fn say_row(entry: &[u8], told: RowAnswer) {
-    show::number(entry, told.number);
-    show::count(b" row=", told.row as u64);
-    show::end();
+fn say_row(entry: &[u8], number: u32, row: usize) {
+    let mut text = io::buffer();
+    let n = answertext::row(&mut text, 0, entry, number, row);
+    print(&text, n);
 }
 
 pub fn check_net(
@@ -65,7 +83,13 @@ pub fn check_net(
         references,
         properties,
     );
-    say_row(b"check_net", told);
+    say_row(b"check_net", told.number, told.row);
+}
+
+fn say_answer(entry: &[u8], number: u32) {
+    let mut text = io::buffer();
+    let n = answertext::answer(&mut text, 0, entry, number);
+    print(&text, n);
 }
 
 pub fn pair_up(
@@ -87,8 +111,7 @@ pub fn pair_up(
         numbers[0],
         numbers[1],
     );
-    show::number(b"pair_up", told.number);
-    show::end();
+    say_answer(b"pair_up", told.number);
 }
 
 pub fn update_vert(
@@ -111,11 +134,7 @@ pub fn update_vert(
         numbers[1],
         numbers[2],
     );
-    let row = RowAnswer {
-        number: told.number,
-        row: told.row,
-    };
-    say_row(b"update_vert", row);
+    say_row(b"update_vert", told.number, told.row);
 }
 
 pub fn collapse_tri(
@@ -136,7 +155,7 @@ pub fn collapse_tri(
         properties,
         numbers[0],
     );
-    say_row(b"collapse_tri", told);
+    say_row(b"collapse_tri", told.number, told.row);
 }
 
 pub fn remove_if_folded(
@@ -157,15 +176,27 @@ pub fn remove_if_folded(
         properties,
         numbers[0],
     );
-    say_row(b"remove_if_folded", told);
+    say_row(b"remove_if_folded", told.number, told.row);
 }
 
 fn say_split(told: SplitAnswer) {
-    show::number(b"split_pinched_verts", told.number);
-    show::count(b" row=", told.row as u64);
-    show::count(b" added=", told.added as u64);
-    show::count(b" steps=", told.steps as u64);
-    show::end();
+    let mut text = io::buffer();
+    let n = answertext::split(
+        &mut text,
+        0,
+        b"split_pinched_verts",
+        told.number,
+        told.row,
+        told.added,
+        told.steps,
+    );
+    print(&text, n);
+}
+
+fn show_visits(work: &[u32], visit: &[u32]) {
+    let mut text = io::large_buffer();
+    let n = answertext::visits(&mut text, 0, work, visit);
+    print(&text, n);
 }
 
 pub fn split_pinched_verts(
@@ -189,14 +220,19 @@ pub fn split_pinched_verts(
         visit,
     );
     say_split(told);
-    show::words(b"work", work);
-    show::words(b"visit", visit);
+    show_visits(work, visit);
 }
 
 fn say_owners(told: OwnersAnswer) {
-    show::number(b"orbit_owners", told.number);
-    show::count(b" count=", told.count as u64);
-    show::end();
+    let mut text = io::buffer();
+    let n = answertext::owners(&mut text, 0, b"orbit_owners", told.number, told.count);
+    print(&text, n);
+}
+
+fn show_marks(work: &[u8], list: &[u32]) {
+    let mut text = io::large_buffer();
+    let n = answertext::marks(&mut text, 0, work, list);
+    print(&text, n);
 }
 
 pub fn orbit_owners(
@@ -222,15 +258,27 @@ pub fn orbit_owners(
         end_too,
     );
     say_owners(told);
-    show::bytes(b"work", work);
-    show::words(b"list", list);
+    show_marks(work, list);
 }
 
 fn say_loop(told: LoopAnswer) {
-    show::number(b"form_loop", told.number);
-    show::count(b" row=", told.row as u64);
-    show::count(b" vertices=", told.vertices as u64);
-    show::end();
+    let mut text = io::buffer();
+    let n = answertext::vertices(
+        &mut text,
+        0,
+        b"form_loop",
+        told.number,
+        told.row,
+        told.vertices,
+    );
+    print(&text, n);
+}
+
+// The spares as a call leaves them.
+pub fn show_spares(spare_halfedges: &[i32], spare_positions: &[u64]) {
+    let mut text = io::large_buffer();
+    let n = answertext::spares(&mut text, 0, spare_halfedges, spare_positions);
+    print(&text, n);
 }
 
 pub fn form_loop(
@@ -257,6 +305,5 @@ pub fn form_loop(
         numbers[1],
     );
     say_loop(told);
-    show::signed_list(b"spare_halfedges", spare_halfedges);
-    show::list(b"spare_positions", spare_positions);
+    show_spares(spare_halfedges, spare_positions);
 }

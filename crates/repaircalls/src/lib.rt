@@ -2,51 +2,75 @@
 // buffers as they are left, and says the place behind them.
 use calltext::scan;
 use calltext::show;
+use entrycalls::print;
+use entrycalls::show_spares;
 use repairtold::CleanupTopologyAnswer;
 use repairtold::CollapseEdgeAnswer;
 use repairtold::DedupeEdgeAnswer;
 use repairtold::DedupeEdgesAnswer;
 use told::Used;
 
-fn say_grown(row: usize, halfedges: usize, vertices: usize) {
-    show::count(b" row=", row as u64);
-    show::count(b" halfedges=", halfedges as u64);
-    show::count(b" vertices=", vertices as u64);
-    show::end();
+fn say_grown(entry: &[u8], number: u32, row: usize, halfedges: usize, vertices: usize) {
+    let mut text = io::buffer();
+    let n = answertext::grown(&mut text, 0, entry, number, row, halfedges, vertices);
+    print(&text, n);
 }
 
 fn say_edge(told: DedupeEdgeAnswer) {
-    show::number(b"dedupe_edge", told.number);
-    say_grown(told.row, told.halfedges, told.vertices);
+    say_grown(
+        b"dedupe_edge",
+        told.number,
+        told.row,
+        told.halfedges,
+        told.vertices,
+    );
 }
 
 fn say_edges(told: DedupeEdgesAnswer) {
-    show::number(b"dedupe_edges", told.number);
-    say_grown(told.row, told.halfedges, told.vertices);
+    say_grown(
+        b"dedupe_edges",
+        told.number,
+        told.row,
+        told.halfedges,
+        told.vertices,
+    );
 }
 
 fn say_cleanup(told: CleanupTopologyAnswer) {
-    show::number(b"cleanup_topology", told.number);
-    say_grown(told.row, told.halfedges, told.vertices);
+    say_grown(
+        b"cleanup_topology",
+        told.number,
+        told.row,
+        told.halfedges,
+        told.vertices,
+    );
 }
 
 fn say_collapse(told: CollapseEdgeAnswer) {
-    show::number(b"collapse_edge", told.number);
-    show::count(b" row=", told.row as u64);
-    show::count(b" vertices=", told.vertices as u64);
-    show::count(b" squared_length=", told.squared_length);
-    show::count(b" limit=", told.limit);
-    show::end();
-}
-
-fn show_spares(spare_halfedges: &[i32], spare_positions: &[u64]) {
-    show::signed_list(b"spare_halfedges", spare_halfedges);
-    show::list(b"spare_positions", spare_positions);
+    let mut text = io::buffer();
+    let n = answertext::collapsed(
+        &mut text,
+        0,
+        b"collapse_edge",
+        told.number,
+        told.row,
+        told.vertices,
+        told.squared_length,
+        told.limit,
+    );
+    print(&text, n);
 }
 
 fn show_buffers(work: &[u32], list: &[u32]) {
-    show::words(b"work", work);
-    show::words(b"list", list);
+    let mut text = io::large_buffer();
+    let n = answertext::buffers(&mut text, 0, work, list);
+    print(&text, n);
+}
+
+fn show_list(list: &[u32]) {
+    let mut text = io::large_buffer();
+    let n = show::words(&mut text, 0, b"list", list);
+    print(&text, n);
 }
 
 fn call_dedupe_edge(
@@ -249,7 +273,7 @@ fn call_collapse_edge(
     spare_positions: &mut [u64],
     list: &mut [u32],
     numbers: &[i32; 8],
-    asked: &[u64; 8],
+    asked: &[u64; 12],
 ) {
     let told = station::spoonferret_collapse_edge(
         used,
@@ -268,7 +292,7 @@ fn call_collapse_edge(
     );
     say_collapse(told);
     show_spares(spare_halfedges, spare_positions);
-    show::words(b"list", list);
+    show_list(list);
 }
 
 pub fn collapse_edge(
@@ -281,7 +305,7 @@ pub fn collapse_edge(
     references: &[i32],
     properties: &[u64],
     numbers: &[i32; 8],
-    asked: &[u64; 8],
+    asked: &[u64; 12],
 ) -> usize {
     let mut spare_halfedges = [0i32; 512];
     let mut spare_positions = [0u64; 256];

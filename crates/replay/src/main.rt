@@ -6,7 +6,6 @@
 // lists, each as its length and its numbers: counts, half-edges, positions, normals, references, properties, numbers asked, floats
 // asked; then the choice; then a list for each buffer that the entry takes.
 use calltext::scan;
-use calltext::show;
 use told::Used;
 
 fn used_of(counts: &[u64; 6]) -> Used {
@@ -122,7 +121,7 @@ fn run(
     references: &[i32],
     properties: &[u64],
     numbers: &[i32; 8],
-    asked: &[u64; 8],
+    asked: &[u64; 12],
 ) {
     if entry == 0 {
         entrycalls::next_halfedge(numbers);
@@ -188,7 +187,6 @@ fn run(
         );
         return;
     }
-    show::end();
 }
 
 // The entries that repair a net, by number; the place behind their buffers.
@@ -203,7 +201,7 @@ fn repair(
     references: &mut [i32],
     properties: &[u64],
     numbers: &[i32; 8],
-    asked: &[u64; 8],
+    asked: &[u64; 12],
 ) -> usize {
     if entry == 11 {
         return repaircalls::dedupe_edge(
@@ -268,7 +266,7 @@ fn run_all(
     references: &mut [i32],
     properties: &[u64],
     numbers: &[i32; 8],
-    asked: &[u64; 8],
+    asked: &[u64; 12],
     choice: bool,
 ) -> usize {
     if entry == 5 {
@@ -346,11 +344,17 @@ fn leaves(
     references: &[i32],
     properties: &[u64],
 ) {
-    show::signed_list(b"halfedges", halfedges);
-    show::list(b"positions", positions);
-    show::list(b"normals", normals);
-    show::signed_list(b"references", references);
-    show::list(b"properties", properties);
+    let mut text = io::large_buffer();
+    let n = answertext::arrays(
+        &mut text,
+        0,
+        halfedges,
+        positions,
+        normals,
+        references,
+        properties,
+    );
+    entrycalls::print(&text, n);
 }
 
 // The entry of that number, then the arrays where it works on a net; the place behind its buffers.
@@ -365,7 +369,7 @@ fn run_and_leave(
     references: &mut [i32],
     properties: &[u64],
     numbers: &[i32; 8],
-    asked: &[u64; 8],
+    asked: &[u64; 12],
     choice: bool,
 ) -> usize {
     let next = run_all(
@@ -401,7 +405,7 @@ fn ask(
     properties: &[u64],
 ) -> usize {
     let mut numbers = [0i32; 8];
-    let mut asked = [0u64; 8];
+    let mut asked = [0u64; 12];
     let a = scan::signed_list(file, at, &mut numbers);
     let f = scan::list(file, a.next, &mut asked);
     let choice = scan::number(file, f.next);

@@ -27,19 +27,19 @@ array-borrow-prefix-spare-halfedges : tie.Need-array-borrow-prefix-spare-halfedg
 array-borrow-prefix-spare-halfedges c = search needs
 
 slice-aggregate-call-collapse-edge : tie.Need-slice-aggregate-call-collapse-edge
-slice-aggregate-call-collapse-edge c = sym (length-take-le _ _ (c .before .before .before .before .before .before .before .before .before .before .signed-list .ensures))
+slice-aggregate-call-collapse-edge c = sym (length-take-le _ _ (c .before .before .before .before .before .before .before .before .before .before .signed-list .ensures .1))
 
 array-borrow-prefix-spare-positions : tie.Need-array-borrow-prefix-spare-positions
 array-borrow-prefix-spare-positions c = search needs
 
 slice-aggregate-call-collapse-edge-2 : tie.Need-slice-aggregate-call-collapse-edge-2
-slice-aggregate-call-collapse-edge-2 c = sym (length-take-le _ _ (c .before .before .before .before .before .before .before .before .list .ensures))
+slice-aggregate-call-collapse-edge-2 c = sym (length-take-le _ _ (c .before .before .before .before .before .before .before .before .list .ensures .1))
 
 array-borrow-prefix-list : tie.Need-array-borrow-prefix-list
 array-borrow-prefix-list c = search needs
 
 slice-aggregate-call-collapse-edge-3 : tie.Need-slice-aggregate-call-collapse-edge-3
-slice-aggregate-call-collapse-edge-3 c = sym (length-take-le _ _ (c .before .before .before .before .before .before .words .ensures))
+slice-aggregate-call-collapse-edge-3 c = sym (length-take-le _ _ (c .before .before .before .before .before .before .words .ensures .1))
 
 call-collapse-edge-requires : tie.Need-call-collapse-edge-requires
 call-collapse-edge-requires c κs = search needs

@@ -21,13 +21,13 @@ array-borrow-prefix-spare-halfedges : tie.Need-array-borrow-prefix-spare-halfedg
 array-borrow-prefix-spare-halfedges c = search needs
 
 slice-aggregate-call-dedupe-edge : tie.Need-slice-aggregate-call-dedupe-edge
-slice-aggregate-call-dedupe-edge c = sym (length-take-le _ _ (c .before .before .before .before .before .before .before .before .before .signed-list .ensures))
+slice-aggregate-call-dedupe-edge c = sym (length-take-le _ _ (c .before .before .before .before .before .before .before .before .before .signed-list .ensures .1))
 
 array-borrow-prefix-spare-positions : tie.Need-array-borrow-prefix-spare-positions
 array-borrow-prefix-spare-positions c = search needs
 
 slice-aggregate-call-dedupe-edge-2 : tie.Need-slice-aggregate-call-dedupe-edge-2
-slice-aggregate-call-dedupe-edge-2 c = sym (length-take-le _ _ (c .before .before .before .before .before .before .before .list .ensures))
+slice-aggregate-call-dedupe-edge-2 c = sym (length-take-le _ _ (c .before .before .before .before .before .before .before .list .ensures .1))
 
 call-dedupe-edge-requires : tie.Need-call-dedupe-edge-requires
 call-dedupe-edge-requires c κs = search needs

@@ -33,25 +33,25 @@ array-borrow-prefix-spare-halfedges : tie.Need-array-borrow-prefix-spare-halfedg
 array-borrow-prefix-spare-halfedges c = search needs
 
 slice-aggregate-call-dedupe-edges : tie.Need-slice-aggregate-call-dedupe-edges
-slice-aggregate-call-dedupe-edges c = sym (length-take-le _ _ (c .before .before .before .before .before .before .before .before .before .before .before .before .before .before .before .signed-list .ensures))
+slice-aggregate-call-dedupe-edges c = sym (length-take-le _ _ (c .before .before .before .before .before .before .before .before .before .before .before .before .before .before .before .signed-list .ensures .1))
 
 array-borrow-prefix-spare-positions : tie.Need-array-borrow-prefix-spare-positions
 array-borrow-prefix-spare-positions c = search needs
 
 slice-aggregate-call-dedupe-edges-2 : tie.Need-slice-aggregate-call-dedupe-edges-2
-slice-aggregate-call-dedupe-edges-2 c = sym (length-take-le _ _ (c .before .before .before .before .before .before .before .before .before .before .before .before .before .list .ensures))
+slice-aggregate-call-dedupe-edges-2 c = sym (length-take-le _ _ (c .before .before .before .before .before .before .before .before .before .before .before .before .before .list .ensures .1))
 
 array-borrow-prefix-work : tie.Need-array-borrow-prefix-work
 array-borrow-prefix-work c = search needs
 
 slice-aggregate-call-dedupe-edges-3 : tie.Need-slice-aggregate-call-dedupe-edges-3
-slice-aggregate-call-dedupe-edges-3 c = sym (length-take-le _ _ (c .before .before .before .before .before .before .before .before .before .before .before .words .ensures))
+slice-aggregate-call-dedupe-edges-3 c = sym (length-take-le _ _ (c .before .before .before .before .before .before .before .before .before .before .before .words .ensures .1))
 
 array-borrow-prefix-list : tie.Need-array-borrow-prefix-list
 array-borrow-prefix-list c = search needs
 
 slice-aggregate-call-dedupe-edges-4 : tie.Need-slice-aggregate-call-dedupe-edges-4
-slice-aggregate-call-dedupe-edges-4 c = sym (length-take-le _ _ (c .before .before .before .before .before .before .before .before .before .words2 .ensures))
+slice-aggregate-call-dedupe-edges-4 c = sym (length-take-le _ _ (c .before .before .before .before .before .before .before .before .before .words2 .ensures .1))
 
 call-dedupe-edges-requires : tie.Need-call-dedupe-edges-requires
 call-dedupe-edges-requires c κs = search needs

@@ -33,13 +33,13 @@ array-borrow-prefix-halfedges : tie.Need-array-borrow-prefix-halfedges
 array-borrow-prefix-halfedges c = search needs
 
 slice-aggregate-read-faces : tie.Need-slice-aggregate-read-faces
-slice-aggregate-read-faces c = sym (length-take-le _ _ (c .before .before .before .before .before .before .before .signed-list .ensures))
+slice-aggregate-read-faces c = sym (length-take-le _ _ (c .before .before .before .before .before .before .before .signed-list .ensures .1))
 
 array-borrow-prefix-positions : tie.Need-array-borrow-prefix-positions
 array-borrow-prefix-positions c = search needs
 
 slice-aggregate-read-faces-2 : tie.Need-slice-aggregate-read-faces-2
-slice-aggregate-read-faces-2 c = sym (length-take-le _ _ (c .before .before .before .before .before .list2 .ensures))
+slice-aggregate-read-faces-2 c = sym (length-take-le _ _ (c .before .before .before .before .before .list2 .ensures .1))
 
 read-faces-requires : tie.Need-read-faces-requires
 read-faces-requires c κs = search needs

@@ -27,19 +27,19 @@ array-borrow-prefix-normals : tie.Need-array-borrow-prefix-normals
 array-borrow-prefix-normals c = search needs
 
 slice-aggregate-ask : tie.Need-slice-aggregate-ask
-slice-aggregate-ask c = sym (length-take-le _ _ (c .before .before .before .before .before .before .before .before .before .before .list .ensures))
+slice-aggregate-ask c = sym (length-take-le _ _ (c .before .before .before .before .before .before .before .before .before .before .list .ensures .1))
 
 array-borrow-prefix-references : tie.Need-array-borrow-prefix-references
 array-borrow-prefix-references c = search needs
 
 slice-aggregate-ask-2 : tie.Need-slice-aggregate-ask-2
-slice-aggregate-ask-2 c = sym (length-take-le _ _ (c .before .before .before .before .before .before .before .before .signed-list .ensures))
+slice-aggregate-ask-2 c = sym (length-take-le _ _ (c .before .before .before .before .before .before .before .before .signed-list .ensures .1))
 
 array-share-prefix-properties : tie.Need-array-share-prefix-properties
 array-share-prefix-properties c = search needs
 
 slice-aggregate-ask-3 : tie.Need-slice-aggregate-ask-3
-slice-aggregate-ask-3 c = sym (length-take-le _ _ (c .before .before .before .before .before .before .list2 .ensures))
+slice-aggregate-ask-3 c = sym (length-take-le _ _ (c .before .before .before .before .before .before .list2 .ensures .1))
 
 ask-requires : tie.Need-ask-requires
 ask-requires c κs = search needs

@@ -21,13 +21,13 @@ array-borrow-prefix-spare-halfedges : tie.Need-array-borrow-prefix-spare-halfedg
 array-borrow-prefix-spare-halfedges c = search needs
 
 slice-aggregate-form-loop : tie.Need-slice-aggregate-form-loop
-slice-aggregate-form-loop c = sym (length-take-le _ _ (c .before .before .before .before .before .before .before .signed-list .ensures))
+slice-aggregate-form-loop c = sym (length-take-le _ _ (c .before .before .before .before .before .before .before .signed-list .ensures .1))
 
 array-borrow-prefix-spare-positions : tie.Need-array-borrow-prefix-spare-positions
 array-borrow-prefix-spare-positions c = search needs
 
 slice-aggregate-form-loop-2 : tie.Need-slice-aggregate-form-loop-2
-slice-aggregate-form-loop-2 c = sym (length-take-le _ _ (c .before .before .before .before .before .list .ensures))
+slice-aggregate-form-loop-2 c = sym (length-take-le _ _ (c .before .before .before .before .before .list .ensures .1))
 
 form-loop-requires : tie.Need-form-loop-requires
 form-loop-requires c κs = search needs

@@ -21,13 +21,13 @@ array-borrow-prefix-work : tie.Need-array-borrow-prefix-work
 array-borrow-prefix-work c = search needs
 
 slice-aggregate-orbit-owners : tie.Need-slice-aggregate-orbit-owners
-slice-aggregate-orbit-owners c = sym (length-take-le _ _ (c .before .before .before .before .before .bytes .ensures))
+slice-aggregate-orbit-owners c = sym (length-take-le _ _ (c .before .before .before .before .before .bytes .ensures .1))
 
 array-borrow-prefix-list : tie.Need-array-borrow-prefix-list
 array-borrow-prefix-list c = search needs
 
 slice-aggregate-orbit-owners-2 : tie.Need-slice-aggregate-orbit-owners-2
-slice-aggregate-orbit-owners-2 c = sym (length-take-le _ _ (c .before .before .before .words .ensures))
+slice-aggregate-orbit-owners-2 c = sym (length-take-le _ _ (c .before .before .before .words .ensures .1))
 
 orbit-owners-requires : tie.Need-orbit-owners-requires
 orbit-owners-requires c κs = search needs

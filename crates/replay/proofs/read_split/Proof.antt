@@ -21,13 +21,13 @@ array-borrow-prefix-work : tie.Need-array-borrow-prefix-work
 array-borrow-prefix-work c = search needs
 
 slice-aggregate-split-pinched-verts : tie.Need-slice-aggregate-split-pinched-verts
-slice-aggregate-split-pinched-verts c = sym (length-take-le _ _ (c .before .before .before .before .before .before .before .words .ensures))
+slice-aggregate-split-pinched-verts c = sym (length-take-le _ _ (c .before .before .before .before .before .before .before .words .ensures .1))
 
 array-borrow-prefix-visit : tie.Need-array-borrow-prefix-visit
 array-borrow-prefix-visit c = search needs
 
 slice-aggregate-split-pinched-verts-2 : tie.Need-slice-aggregate-split-pinched-verts-2
-slice-aggregate-split-pinched-verts-2 c = sym (length-take-le _ _ (c .before .before .before .before .before .words2 .ensures))
+slice-aggregate-split-pinched-verts-2 c = sym (length-take-le _ _ (c .before .before .before .before .before .words2 .ensures .1))
 
 split-pinched-verts-requires : tie.Need-split-pinched-verts-requires
 split-pinched-verts-requires c κs = search needs
