@@ -87,11 +87,11 @@ meshSaid (M.Read vertices triangles) = done (whole (pos vertices) ∷ whole (pos
 meshSaid M.TooLarge = shape
 meshSaid (M.Bad line) = bad-file line
 
-abbrev pub told : Found → List ℤ → List ℕ → Reading
-told (holding vertices triangles ps hs) halfedges positions =
+abbrev pub found-left : Found → List ℤ → List ℕ → Reading
+found-left (holding vertices triangles ps hs) halfedges positions =
     reading (done (whole (pos vertices) ∷ whole (pos triangles) ∷ [])) (laid append-row 0 hs halfedges) (laid put-triple 0 ps positions)
-told too-large halfedges positions = reading shape halfedges positions
-told (first-bad line) halfedges positions = reading (bad-file line) halfedges positions
+found-left too-large halfedges positions = reading shape halfedges positions
+found-left (first-bad line) halfedges positions = reading (bad-file line) halfedges positions
 
 abbrev pub readMesh : List ℕ → List ℤ → List ℕ → Reading
-readMesh text halfedges positions = told (found (limits-of halfedges positions) text) halfedges positions
+readMesh text halfedges positions = found-left (found (limits-of halfedges positions) text) halfedges positions

@@ -9,7 +9,7 @@ use lib.Seq.{length-take-le, take-at, drop-at}
 use Rattle.laws.specs.Stretches.{put-at}
 use Rattle.laws.proofs.Stretches.{length-put-at, put-behind}
 use Rattle.texts.specs.Appended.{Appended}
-use Rattle.texts.specs.Put.{Filled, put, puts, joined}
+use Rattle.texts.specs.Put.{Filled, put, puts, pieces-text}
 use Rattle.texts.proofs.Appends.{appended-on, appended-none, appended-is}
 
 -- what was appended, whole
@@ -44,16 +44,16 @@ put-fits : (x a : List ℕ) (u : ℕ) → u + length x ≤ length a → (put-at 
 unfolding put
 put-fits x a u h = rw (le-leb (u + length x) (length a) h)
 
-pub puts-appends : (l : List (List ℕ)) (a : List ℕ) (u : ℕ) → u + length (joined l) ≤ length a → Appended a u (joined l) (puts l (a, u) .0) (puts l (a, u) .1)
-unfolding puts joined
+pub puts-appends : (l : List (List ℕ)) (a : List ℕ) (u : ℕ) → u + length (pieces-text l) ≤ length a → Appended a u (pieces-text l) (puts l (a, u) .0) (puts l (a, u) .1)
+unfolding puts pieces-text
 puts-appends [] a u h = appended-none a u
 puts-appends (x ∷ l) a u h =
-    let n : u + length x ≤ length a = omega (arith, length-append x (joined l)) in
-    subst (λ (s : Filled). Appended a u (x ++ joined l) (puts l s .0) (puts l s .1))
+    let n : u + length x ≤ length a = omega (arith, length-append x (pieces-text l)) in
+    subst (λ (s : Filled). Appended a u (x ++ pieces-text l) (puts l s .0) (puts l s .1))
     (put-fits x a u n)
     (appended-on
     (subst (λ (s : Filled). Appended a u x (s .0) (s .1)) (sym (put-fits x a u n)) (put-appends x a u n))
-    (puts-appends l (put-at u x a) (u + length x) (omega (arith, length-append x (joined l), length-put-at u x a n))))
+    (puts-appends l (put-at u x a) (u + length x) (omega (arith, length-append x (pieces-text l), length-put-at u x a n))))
 
 -- a row of pieces, from what each put left: none, one more in front, one, and two rows
 pub puts-on : (x : List ℕ) (l : List (List ℕ)) (s t u : Filled) → t ≡ put x s → u ≡ puts l t → u ≡ puts (x ∷ l) s

@@ -27,6 +27,6 @@ signed-pieces (pos n) = decimal n ∷ []
 signed-pieces (negsuc n) = (minus ∷ []) ∷ decimal (suc n) ∷ []
 
 -- the text that the pieces make
-unfoldable pub joined : List (List ℕ) → List ℕ
-joined [] = []
-joined (bytes ∷ l) = bytes ++ joined l
+unfoldable pub pieces-text : List (List ℕ) → List ℕ
+pieces-text [] = []
+pieces-text (bytes ∷ l) = bytes ++ pieces-text l
