@@ -26,7 +26,7 @@ fn collapse_named(rows: &mut [i32], halfedges: usize, halfedge: i32) -> Collapse
     let NamedHalfedge::At(e) = numbers::halfedge_given(halfedge, halfedges) else {
         return CollapseTri::Number;
     };
-    if !halfedges::is_paired(rows, e) {
+    if !edgetests::is_paired(rows, e) {
         return CollapseTri::Dead;
     }
     triangles::collapse_step(rows, halfedges, steps::begun(0), e);

@@ -101,7 +101,7 @@ fn dedupe_named(
     let NamedHalfedge::At(e) = numbers::halfedge_given(halfedge, halfedges) else {
         return DedupeEdge::Number;
     };
-    if !halfedges::is_paired(rows, e) {
+    if !edgetests::is_paired(rows, e) {
         return DedupeEdge::Dead;
     }
     dedupe_settled(

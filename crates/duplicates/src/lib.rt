@@ -56,7 +56,7 @@ fn outranks(rows: &[i32], vertices: usize, d: Halfedge, c: Halfedge) -> bool
     ensures { λ r. ⌜ r ≡ ltb (halfedgeNumber d) (halfedgeNumber c) && ends-alike vertices (now (rows .entry)) (halfedgeNumber c) (halfedgeNumber d) ⌝ }
 {
     let smaller = d.number() < c.number();
-    let alike = ends_in(rows, vertices, c) & halfedges::same_end(rows, d, c);
+    let alike = ends_in(rows, vertices, c) & edgetests::same_end(rows, d, c);
     smaller & alike
 }
 
@@ -147,7 +147,7 @@ fn is_passed(rows: &[i32], work: &[u32], h: Halfedge) -> bool
     ensures { λ r. ⌜ r ≡ is-passed (now (rows .entry)) (halfedgeNumber h) (now (work .entry)) ⌝ }
 {
     let k = h.number();
-    (work[k] != 0) | !(halfedges::is_started(rows, h) & halfedges::is_ended(rows, h))
+    (work[k] != 0) | !(edgetests::is_started(rows, h) & edgetests::is_ended(rows, h))
 }
 
 // Walks the fan of h, where it is not passed over: marks it, and lists its duplicates behind the entries. How many there are then.

@@ -47,9 +47,9 @@ fn are_apart(rows: &[i32], h: Halfedge, j: Halfedge, k: Halfedge) -> bool
     requires { ⌜ Three (now rows) (halfedgeNumber h) (halfedgeNumber j) (halfedgeNumber k) ⌝ }
     ensures { λ r. ⌜ r ≡ apart3 (now (rows .entry)) (halfedgeNumber h) (halfedgeNumber j) (halfedgeNumber k) ⌝ }
 {
-    !halfedges::same_start(rows, h, j)
-        & !halfedges::same_start(rows, j, k)
-        & !halfedges::same_start(rows, k, h)
+    !edgetests::same_start(rows, h, j)
+        & !edgetests::same_start(rows, j, k)
+        & !edgetests::same_start(rows, k, h)
 }
 
 // Clauses 4 to 7, of h with its partner p; j and k are the other half-edges of its triangle.
@@ -57,16 +57,16 @@ fn triangle_clause(rows: &[i32], h: Halfedge, j: Halfedge, k: Halfedge, p: Halfe
     requires { ⌜ ((halfedgeNumber h < 2 ^ 31) × (halfedgeNumber p < lent-halfedges (now rows))) × Three (now rows) (halfedgeNumber h) (halfedgeNumber j) (halfedgeNumber k) ⌝ }
     ensures { λ r. ⌜ explainSaid r ≡ triangle-clause (now (rows .entry)) (halfedgeNumber h) (halfedgeNumber j) (halfedgeNumber k) (halfedgeNumber p) ⌝ }
 {
-    if !halfedges::is_paired(rows, j) {
+    if !edgetests::is_paired(rows, j) {
         return ExplainRow::Unpaired(j);
     }
-    if !halfedges::is_paired(rows, k) {
+    if !edgetests::is_paired(rows, k) {
         return ExplainRow::Unpaired(k);
     }
-    if !halfedges::is_joined(rows, h, j) {
+    if !edgetests::is_joined(rows, h, j) {
         return ExplainRow::NotJoined(j);
     }
-    if !halfedges::is_mirrored(rows, h, p) {
+    if !edgetests::is_mirrored(rows, h, p) {
         return ExplainRow::NotMirrored(p);
     }
     if are_apart(rows, h, j, k) {
@@ -91,7 +91,7 @@ fn partner_clause(
     if !points_back(rows, halfedges, p, h) {
         return ExplainRow::NotBack(p);
     }
-    if !halfedges::is_within(rows, h, vertices) {
+    if !edgetests::is_within(rows, h, vertices) {
         return ExplainRow::NoVertex;
     }
     triangle_clause(rows, h, j, k, p)
@@ -109,9 +109,9 @@ fn row_clause(
     requires { ⌜ (halfedgeNumber h < halfedges) × (InUse halfedges (now rows) × Three (now rows) (halfedgeNumber h) (halfedgeNumber j) (halfedgeNumber k)) ⌝ }
     ensures { λ r. ⌜ explainSaid r ≡ row-clause halfedges vertices (now (rows .entry)) (halfedgeNumber h) (halfedgeNumber j) (halfedgeNumber k) ⌝ }
 {
-    let this = halfedges::is_empty(rows, h);
-    let next = halfedges::is_empty(rows, j);
-    if this & next & halfedges::is_empty(rows, k) {
+    let this = edgetests::is_empty(rows, h);
+    let next = edgetests::is_empty(rows, j);
+    if this & next & edgetests::is_empty(rows, k) {
         return ExplainRow::InOrder;
     }
     if this {

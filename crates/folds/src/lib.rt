@@ -21,7 +21,7 @@ fn beyond(rows: &[i32], run: Run, h: Halfedge) -> Run
     requires { ⌜ halfedgeNumber h < lent-halfedges (now rows) ⌝ }
     ensures { λ r. ⌜ ((p : List ℕ) → middle (now (rows .entry)) p r ≡ beyond (halfedgeNumber h) (middle (now (rows .entry)) p run)) × (r .vertices ≡ run .vertices) ⌝ }
 {
-    if halfedges::is_started(rows, h) {
+    if edgetests::is_started(rows, h) {
         return steps::stopped(run);
     }
     run
@@ -190,7 +190,7 @@ fn fold_at(
     let f2 = f1.next();
     let first = is_pair(rows, halfedges, e1, f2);
     let second = is_pair(rows, halfedges, e2, f1);
-    if !(halfedges::same_end(rows, e1, f1) & (first | second)) {
+    if !(edgetests::same_end(rows, e1, f1) & (first | second)) {
         return run;
     }
     take_out(
@@ -223,7 +223,7 @@ pub fn fold_step(
     if steps::refused(run) {
         return run;
     }
-    if !halfedges::is_paired(rows, e) | halfedges::is_unpaired(rows, e.next()) {
+    if !edgetests::is_paired(rows, e) | edgetests::is_unpaired(rows, e.next()) {
         return run;
     }
     let NamedHalfedge::At(f) = rows::halfedges::pair_of(rows, e, halfedges) else {

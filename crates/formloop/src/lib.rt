@@ -97,7 +97,7 @@ fn form_named(
     let NamedHalfedge::At(b) = numbers::halfedge_given(second, halfedges) else {
         return FormLoop::Number;
     };
-    if !(halfedges::is_paired(rows, a) & halfedges::is_paired(rows, b)) {
+    if !(edgetests::is_paired(rows, a) & edgetests::is_paired(rows, b)) {
         return FormLoop::Dead;
     }
     let capacity = net::vertex_capacity(positions);

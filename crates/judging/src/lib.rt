@@ -63,7 +63,7 @@ pub fn judge(
     requires { ⌜ (halfedgeNumber e < halfedges) × (InUse halfedges (now rows) × VerticesIn vertices (now positions)) ⌝ }
     ensures { λ r. ⌜ judged r ≡ judge halfedges vertices (now (rows .entry)) (now (positions .entry)) tolerance (halfedgeNumber e) ⌝ }
 {
-    if !halfedges::is_paired(rows, e) {
+    if !edgetests::is_paired(rows, e) {
         return Judged::Dead;
     }
     let NamedHalfedge::At(p) = rows::halfedges::pair_of(rows, e, halfedges) else {
@@ -75,7 +75,7 @@ pub fn judge(
     let NamedVertex::At(v) = rows::halfedges::end_of(rows, e, vertices) else {
         return Judged::Missing;
     };
-    if !halfedges::is_paired(rows, p.next()) {
+    if !edgetests::is_paired(rows, p.next()) {
         return Judged::Open;
     }
     match between(positions, tolerance, u, v) {

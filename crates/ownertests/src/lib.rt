@@ -22,8 +22,8 @@ pub fn is_eligible(rows: &[i32], h: Halfedge, eligible: Eligible) -> bool
     ensures { λ r. ⌜ r ≡ is-eligible eligible (now (rows .entry)) (halfedgeNumber h) ⌝ }
 {
     match eligible {
-        Eligible::Start => halfedges::is_started(rows, h),
-        Eligible::StartAndEnd => halfedges::is_started(rows, h) & halfedges::is_ended(rows, h),
+        Eligible::Start => edgetests::is_started(rows, h),
+        Eligible::StartAndEnd => edgetests::is_started(rows, h) & edgetests::is_ended(rows, h),
     }
 }
 
@@ -45,7 +45,7 @@ pub fn is_paired_back(rows: &[i32], h: Halfedge, halfedges: usize) -> bool
 {
     match rows::halfedges::pair_of(rows, h, halfedges) {
         NamedHalfedge::At(p) => is_pair(rows, p, h, halfedges),
-        NamedHalfedge::Nothing => !halfedges::is_paired(rows, h),
+        NamedHalfedge::Nothing => !edgetests::is_paired(rows, h),
     }
 }
 

@@ -32,7 +32,7 @@ fn fold_named(
     let NamedHalfedge::At(e) = numbers::halfedge_given(halfedge, halfedges) else {
         return RemoveIfFolded::Number;
     };
-    if !halfedges::is_paired(rows, e) {
+    if !edgetests::is_paired(rows, e) {
         return RemoveIfFolded::Dead;
     }
     folds::fold_step(rows, positions, halfedges, steps::begun(vertices), e);

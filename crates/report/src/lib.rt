@@ -69,7 +69,7 @@ fn is_live(rows: &[i32], i: usize) -> bool
     requires { ⌜ i < lent-halfedges (now rows) ⌝ }
     ensures { λ r. ⌜ r ≡ is-paired (now (rows .entry)) i ⌝ }
 {
-    halfedges::is_paired(rows, numbers::halfedge_counted(i))
+    edgetests::is_paired(rows, numbers::halfedge_counted(i))
 }
 
 // How many of the first n half-edges are live.

@@ -73,7 +73,7 @@ pub fn find(rows: &[i32], list: &[u32], halfedges: usize, len: usize, h: Halfedg
     let mut k = 0;
     while k < len {
         let g = entry(list, k);
-        if halfedges::same_end(rows, h, g) {
+        if edgetests::same_end(rows, h, g) {
             return Hit::At(k);
         }
         k += 1;

@@ -66,7 +66,7 @@ fn meets_again(rows: &[i32], halfedges: usize, e: Halfedge) -> bool
         if at.number() == e.number() {
             break 'fan false;
         }
-        if halfedges::same_end(rows, at, e) {
+        if edgetests::same_end(rows, at, e) {
             break 'fan true;
         }
         left -= 1;
@@ -79,5 +79,5 @@ pub fn still_duplicated(rows: &[i32], halfedges: usize, e: Halfedge) -> bool
     requires { ⌜ (halfedgeNumber e < halfedges) × InUse halfedges (now rows) ⌝ }
     ensures { λ r. ⌜ r ≡ still halfedges (now (rows .entry)) (halfedgeNumber e) ⌝ }
 {
-    halfedges::is_started(rows, e) & halfedges::is_ended(rows, e) & meets_again(rows, halfedges, e)
+    edgetests::is_started(rows, e) & edgetests::is_ended(rows, e) & meets_again(rows, halfedges, e)
 }

@@ -133,7 +133,7 @@ fn is_done(rows: &[i32], work: &[u32], h: Halfedge) -> bool
     ensures { λ r. ⌜ r ≡ is-done (now (rows .entry)) (halfedgeNumber h) (now (work .entry)) ⌝ }
 {
     workentries::is_walked(work, h)
-        | !(halfedges::is_started(rows, h) & halfedges::is_ended(rows, h))
+        | !(edgetests::is_started(rows, h) & edgetests::is_ended(rows, h))
 }
 
 // The fan of h, where some vertex was entered twice: its duplicates are listed. How many entries there are then.

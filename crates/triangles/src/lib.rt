@@ -39,7 +39,7 @@ pub fn collapse_step(rows: &mut [i32], halfedges: usize, run: Run, e: Halfedge) 
         return run;
     }
     let second = e.next();
-    if halfedges::is_unpaired(rows, second) {
+    if edgetests::is_unpaired(rows, second) {
         return run;
     }
     let NamedHalfedge::At(a) = rows::halfedges::pair_of(rows, second, halfedges) else {

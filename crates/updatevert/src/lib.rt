@@ -62,7 +62,7 @@ fn update_named(
     let NamedHalfedge::At(b) = numbers::halfedge_given(end, halfedges) else {
         return UpdateVert::Number;
     };
-    if !(halfedges::is_paired(rows, a) & halfedges::is_paired(rows, b)) {
+    if !(edgetests::is_paired(rows, a) & edgetests::is_paired(rows, b)) {
         return UpdateVert::Dead;
     }
     update_at(rows, halfedges, v, a, b)

@@ -1,7 +1,7 @@
--- `halfedges::same_start` meets its contract.
+-- `edgetests::same_start` meets its contract.
 use borrow.Author.Needs.{needs}
-use Rattle.halfedges.proofs.same_start.Statement.{statement}
-use Rattle.halfedges.proofs.same_start.Tie as tie
+use Rattle.edgetests.proofs.same_start.Statement.{statement}
+use Rattle.edgetests.proofs.same_start.Tie as tie
 
 number-requires : tie.Need-number-requires
 number-requires c κs = search needs

@@ -1,7 +1,7 @@
--- `halfedges::same_end` meets its contract.
+-- `edgetests::same_end` meets its contract.
 use borrow.Author.Needs.{needs}
-use Rattle.halfedges.proofs.same_end.Statement.{statement}
-use Rattle.halfedges.proofs.same_end.Tie as tie
+use Rattle.edgetests.proofs.same_end.Statement.{statement}
+use Rattle.edgetests.proofs.same_end.Tie as tie
 
 number-requires : tie.Need-number-requires
 number-requires c κs = search needs
