@@ -50,7 +50,7 @@ module _ {H : ℕ} {Live : ℕ → Type 0} {turn : ℕ → ℕ} (T : Turning H L
   period x l = go (least (λ j. iter turn (suc j) x ≡ x) (λ j. ℕ_discrete (iter turn (suc j) x) x) H)
     where
       go : Least (λ j. iter turn (suc j) x ≡ x) H ⊎ None (λ j. iter turn (suc j) x ≡ x) H → Period turn H x
-      go (inl m) = record { p = suc m.0; pos = omega arith; le = m.1; home = m.2; first = λ j. elim j [ zero ↦ λ a b. absurd (omega arith) | suc k ↦ λ a b. m.3 k (omega arith) ] }
+      go (inl m) = record { p = suc m.0; pos = omega arith; le = m.1; home = m.2; first = λ j. elim j as (λ i. 0 < i → i < suc m.0 → iter turn i x ≢ x) [ zero ↦ λ a b. absurd (omega arith) | suc k ↦ λ a b. m.3 k (omega arith) ] }
       go (inr q) =
           let t = pigeon H (λ k. iter turn k x) (λ k h. T.below (iter turn k x) (live_iter k x l)) in
           let u : t.0 < t.1 = t.2 in
