@@ -3,7 +3,7 @@ ghost use Rattle.std.specs.Prelude.{◌≡◌, ◌<◌, ◌≤◌, true, length,
 ghost use Rattle.calltext.specs.Scan.{is_digit, first_from, with_digit, digits_at, number_from, signed_of, count_of, word_of, byte_of, up_to, room as Scan·room, list_from};
 
 // A number, and the place behind it.
-#[derive(Drop)]
+#[derive(Clone, Copy)]
 pub struct Scanned {
     pub negative: bool,
     pub magnitude: u64,
@@ -11,7 +11,7 @@ pub struct Scanned {
 }
 
 // How much of a list was read, and the place behind it.
-#[derive(Drop)]
+#[derive(Clone, Copy)]
 pub struct Listed {
     pub length: usize,
     pub next: usize,

@@ -17,7 +17,7 @@ use splitcleared::Split;
 use steps::{How, Run};
 
 // What cleanup_topology answers: on Done the half-edges and vertices in use afterwards.
-#[derive(Drop)]
+#[derive(Clone, Copy)]
 pub enum CleanupTopology {
     Done(usize, usize),
     Shape,

@@ -18,7 +18,7 @@ use numbers::{Halfedge, NamedHalfedge};
 use steps::{How, Run};
 
 // What collapse_edge answers: on Done the vertices in use afterwards, on Long the squared length and the limit.
-#[derive(Drop)]
+#[derive(Clone, Copy)]
 pub enum CollapseEdge {
     Done(usize),
     Shape,
@@ -32,7 +32,7 @@ pub enum CollapseEdge {
 }
 
 // What bars an edge before anything is written: it is dead, or long.
-#[derive(Drop)]
+#[derive(Clone, Copy)]
 enum Barred {
     Dead,
     Long(f64, f64),

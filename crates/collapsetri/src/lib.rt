@@ -10,7 +10,7 @@ use numbers::{Halfedge, NamedHalfedge};
 use soundness::Checked;
 
 // What collapse_tri answers.
-#[derive(Drop)]
+#[derive(Clone, Copy)]
 pub enum CollapseTri {
     Done,
     Shape,

@@ -19,7 +19,7 @@ use steps::Run;
 
 // How a try comes out: the edge went; the steps were refused; or it was left alone, since it has no pair, since the fan of its start is
 // open, or since it is long.
-#[derive(Drop)]
+#[derive(Clone, Copy)]
 pub enum Tried {
     Went(Run),
     Refused(Run),

@@ -12,7 +12,7 @@ use splitcleared::Split;
 
 // How many vertices were added and half-edges visited.
 #[repr(C)]
-#[derive(Drop)]
+#[derive(Clone, Copy)]
 pub struct SplitAnswer {
     pub number: u32,
     pub row: usize,
@@ -22,7 +22,7 @@ pub struct SplitAnswer {
 
 // How many half-edges were listed.
 #[repr(C)]
-#[derive(Drop)]
+#[derive(Clone, Copy)]
 pub struct OwnersAnswer {
     pub number: u32,
     pub count: usize,
@@ -30,7 +30,7 @@ pub struct OwnersAnswer {
 
 // How many vertices are in use afterwards.
 #[repr(C)]
-#[derive(Drop)]
+#[derive(Clone, Copy)]
 pub struct LoopAnswer {
     pub number: u32,
     pub row: usize,

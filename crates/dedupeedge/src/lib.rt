@@ -14,7 +14,7 @@ use numbers::{Halfedge, NamedHalfedge};
 use steps::How;
 
 // What dedupe_edge answers: on Done the half-edges and vertices in use afterwards.
-#[derive(Drop)]
+#[derive(Clone, Copy)]
 pub enum DedupeEdge {
     Done(usize, usize),
     Shape,

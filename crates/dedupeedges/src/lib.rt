@@ -15,7 +15,7 @@ use numbers::{Halfedge, NamedHalfedge};
 use steps::How;
 
 // What dedupe_edges answers: on Done the half-edges and vertices in use afterwards.
-#[derive(Drop)]
+#[derive(Clone, Copy)]
 pub enum DedupeEdges {
     Done(usize, usize),
     Shape,

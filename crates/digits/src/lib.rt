@@ -5,35 +5,35 @@ ghost use Rattle.digits.specs.Steps.{first_byte, after, count, number, more as S
 ghost use Rattle.digits.specs.Told.{byte_got, Steps, past_got, count_got, number_got, bits_got};
 
 // A byte and the place behind it, or the end of the text.
-#[derive(Drop)]
+#[derive(Clone, Copy)]
 pub enum Byte {
     At(u8, usize),
     End,
 }
 
 // The place behind some bytes, or that others stand there.
-#[derive(Drop)]
+#[derive(Clone, Copy)]
 pub enum Past {
     To(usize),
     Bad,
 }
 
 // A count and the place behind it.
-#[derive(Drop)]
+#[derive(Clone, Copy)]
 pub enum Count {
     Is(usize, usize),
     Bad,
 }
 
 // A row's number and the place behind it.
-#[derive(Drop)]
+#[derive(Clone, Copy)]
 pub enum Number {
     Is(i32, usize),
     Bad,
 }
 
 // A bit pattern and the place behind it.
-#[derive(Drop)]
+#[derive(Clone, Copy)]
 pub enum Bits {
     Is(u64, usize),
     Bad,

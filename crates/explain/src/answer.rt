@@ -7,7 +7,7 @@ ghost use Rattle.explain.specs.Answer.{explain_told};
 use crate::ExplainRow;
 
 #[repr(C)]
-#[derive(Drop)]
+#[derive(Clone, Copy)]
 pub struct ExplainAnswer {
     pub number: u32,
     pub clause: u32,

@@ -15,7 +15,7 @@ use numbers::{Halfedge, NamedHalfedge};
 pub mod answer;
 
 // What explain_row answers: the clause that the row breaks first, with the other row where there is one, or a refusal.
-#[derive(Drop)]
+#[derive(Clone, Copy)]
 pub enum ExplainRow {
     InOrder,
     NoPartner,

@@ -30,7 +30,7 @@ fn turn_of(rows: &[i32], h: Halfedge, halfedges: usize) -> Halfedge
 }
 
 // Where the order goes on behind a fan, or that the fan does not close.
-#[derive(Drop)]
+#[derive(Clone, Copy)]
 pub enum Behind {
     At(usize),
     Unclosed,

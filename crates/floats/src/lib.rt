@@ -5,21 +5,21 @@ ghost use Rattle.std.specs.Float.Ieee.{of_bits, to_bits};
 ghost use Rattle.floats.specs.Vectors.{minus3, dot3, minus2, dot2, vec3_of_bits};
 ghost use Rattle.floats.specs.Short.{tolerance_of, limit_of, squared_length, short_or_long, length_said, short_test};
 
-#[derive(Drop)]
+#[derive(Clone, Copy)]
 pub struct Vec3 {
     pub x: f64,
     pub y: f64,
     pub z: f64,
 }
 
-#[derive(Drop)]
+#[derive(Clone, Copy)]
 pub struct Vec2 {
     pub x: f64,
     pub y: f64,
 }
 
 // What the short test finds.
-#[derive(Drop)]
+#[derive(Clone, Copy)]
 pub enum Length {
     Short,
     // The squared length and the limit.

@@ -13,7 +13,7 @@ use numbers::{Halfedge, NamedHalfedge};
 use steps::{How, Run};
 
 // What form_loop answers: on Done the vertices in use afterwards.
-#[derive(Drop)]
+#[derive(Clone, Copy)]
 pub enum FormLoop {
     Done(usize),
     Shape,

@@ -11,7 +11,7 @@ use numbers::{Halfedge, NamedHalfedge, Vertex};
 use steps::Run;
 
 // What there can be: half-edges and vertices, and whether triangles have normals, and references.
-#[derive(Drop)]
+#[derive(Clone, Copy)]
 pub struct Limits {
     pub halfedges: usize,
     pub vertices: usize,
@@ -20,7 +20,7 @@ pub struct Limits {
 }
 
 // The half-edges in use so far, and how the steps run.
-#[derive(Drop)]
+#[derive(Clone, Copy)]
 pub struct Grown {
     pub halfedges: usize,
     pub run: Run,

@@ -16,7 +16,7 @@ use numbers::{Halfedge, NamedHalfedge, NamedVertex};
 use steps::{How, Run};
 
 #[repr(C)]
-#[derive(Drop)]
+#[derive(Clone, Copy)]
 pub struct Used {
     pub halfedges: usize,
     pub vertices: usize,
@@ -28,7 +28,7 @@ pub struct Used {
 
 // How the step ended, by document 01's number, 0 where the steps go on; and the vertices in use then.
 #[repr(C)]
-#[derive(Drop)]
+#[derive(Clone, Copy)]
 pub struct StepAnswer {
     pub number: u32,
     pub vertices: usize,

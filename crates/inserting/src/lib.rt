@@ -12,7 +12,7 @@ use growth::{Grown, Limits};
 use numbers::{Halfedge, NamedHalfedge, Vertex};
 
 // The net so far, and where the search about the end then stands.
-#[derive(Drop)]
+#[derive(Clone, Copy)]
 pub struct Moved {
     pub grown: Grown,
     pub place: Halfedge,

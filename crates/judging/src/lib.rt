@@ -10,7 +10,7 @@ use floats::{Length, Vec3};
 use numbers::{Halfedge, NamedHalfedge, NamedVertex, Vertex};
 
 // What short means: an edge that ends before first_new_vert is held against tol, another against epsilon.
-#[derive(Drop)]
+#[derive(Clone, Copy)]
 pub struct Tolerance {
     pub first_new_vert: i32,
     pub tol: f64,
@@ -19,7 +19,7 @@ pub struct Tolerance {
 
 // How an edge is judged: it is short, with its partner and its end; long, with squared length and limit; it has no pair; the fan of its
 // start is open; or a row isn't there.
-#[derive(Drop)]
+#[derive(Clone, Copy)]
 pub enum Judged {
     Short(Halfedge, Vertex),
     Long(f64, f64),

@@ -12,42 +12,42 @@ use rows::halfedges::Row;
 use rows::triples::Bits3;
 
 // How many vertices and triangles a file may have: of half-edges, three times as many.
-#[derive(Drop)]
+#[derive(Clone, Copy)]
 pub struct Limits {
     pub vertices: usize,
     pub triangles: usize,
 }
 
 // A line's position and the place behind it.
-#[derive(Drop)]
+#[derive(Clone, Copy)]
 pub enum PositionLine {
     Is(Bits3, usize),
     Bad,
 }
 
 // A line's row and the place behind it.
-#[derive(Drop)]
+#[derive(Clone, Copy)]
 pub enum HalfedgeLine {
     Is(Row, usize),
     Bad,
 }
 
 // The counts of the three first lines and the place behind them, or the bad one.
-#[derive(Drop)]
+#[derive(Clone, Copy)]
 pub enum FirstLines {
     Are(usize, usize, usize),
     Bad(usize),
 }
 
 // The place behind some lines, or the bad one.
-#[derive(Drop)]
+#[derive(Clone, Copy)]
 pub enum Passed {
     To(usize),
     Bad(usize),
 }
 
 // A good file's counts, and the places of its first position and its first row.
-#[derive(Drop)]
+#[derive(Clone, Copy)]
 pub enum Checked {
     Good(usize, usize, usize, usize),
     TooLarge,
@@ -55,7 +55,7 @@ pub enum Checked {
 }
 
 // What `read` answers: vertices and triangles, or that there are too many, or the first bad line.
-#[derive(Drop)]
+#[derive(Clone, Copy)]
 pub enum Mesh {
     Read(usize, usize),
     TooLarge,

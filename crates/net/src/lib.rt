@@ -4,7 +4,7 @@ ghost use Rattle.net.specs.Net.{net};
 ghost use Rattle.net.specs.Counts.{triangle_capacity_over, halfedge_capacity_over, vertex_capacity_over, property_capacity_over, is_shaped, is_long, spare_holds, none_or_all, triangles_for, lent_properties};
 
 // How many rows of each array are in use, and how many numbers a property row has.
-#[derive(Drop)]
+#[derive(Clone, Copy)]
 pub struct Counts {
     pub halfedges: usize,
     pub vertices: usize,

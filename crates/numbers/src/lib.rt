@@ -7,35 +7,35 @@ ghost use Rattle.std.specs.Int.Signed.{le_z};
 ghost use Rattle.numbers.specs.Numbers.{halfedge_number, vertex_number, prop_row_number, names, is_named, placed, halfedge_named, vertex_named, prop_row_named};
 ghost use Rattle.numbers.specs.Next.{next, next_answer, next_said, tri_answer, tri_said, most_halfedges};
 
-#[derive(Drop)]
+#[derive(Clone, Copy)]
 pub struct Halfedge(usize);
 
-#[derive(Drop)]
+#[derive(Clone, Copy)]
 pub struct Vertex(usize);
 
-#[derive(Drop)]
+#[derive(Clone, Copy)]
 pub struct PropRow(usize);
 
 // What a signed number names: a half-edge, or nothing that is there.
-#[derive(Drop)]
+#[derive(Clone, Copy)]
 pub enum NamedHalfedge {
     At(Halfedge),
     Nothing,
 }
 
-#[derive(Drop)]
+#[derive(Clone, Copy)]
 pub enum NamedVertex {
     At(Vertex),
     Nothing,
 }
 
-#[derive(Drop)]
+#[derive(Clone, Copy)]
 pub enum NamedPropRow {
     At(PropRow),
     Nothing,
 }
 
-#[derive(Drop)]
+#[derive(Clone, Copy)]
 enum Place {
     At(usize),
     Nothing,
@@ -201,7 +201,7 @@ impl PropRow {
 }
 
 // What next_halfedge answers: the next number, or that there is none.
-#[derive(Drop)]
+#[derive(Clone, Copy)]
 pub enum Next {
     To(i32),
     Number,
@@ -225,7 +225,7 @@ pub fn next_halfedge(h: i32) -> Next
 }
 
 // What tri_of answers: the triangle's three numbers from the given one on, or that one of them has no next.
-#[derive(Drop)]
+#[derive(Clone, Copy)]
 pub enum Tri {
     Of(i32, i32, i32),
     Number,

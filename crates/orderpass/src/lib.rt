@@ -13,7 +13,7 @@ use fanwalks::Behind;
 use numbers::{Halfedge, NamedVertex, Vertex};
 
 // Copies counted and half-edges put into the order, or that a fan does not close.
-#[derive(Drop)]
+#[derive(Clone, Copy)]
 pub enum Ordered {
     To(usize, usize),
     Unclosed,

@@ -12,7 +12,7 @@ use net::Counts;
 use ownertests::Eligible;
 
 // What orbit_owners answers: how many are listed; or a shape that does not fit, a buffer too short, no owners.
-#[derive(Drop)]
+#[derive(Clone, Copy)]
 pub enum Owners {
     Done(usize),
     Shape,

@@ -10,7 +10,7 @@ ghost use Rattle.ownertests.specs.inner.Needs.{InUse};
 use numbers::{Halfedge, NamedHalfedge};
 
 // Which half-edges count: those with start ≥ 0, or with start and end ≥ 0.
-#[derive(Drop)]
+#[derive(Clone, Copy)]
 pub enum Eligible {
     Start,
     StartAndEnd,

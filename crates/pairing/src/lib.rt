@@ -19,7 +19,7 @@ pub fn pair_rows(rows: &mut [i32], a: Halfedge, b: Halfedge)
 }
 
 // What pair_up answers.
-#[derive(Drop)]
+#[derive(Clone, Copy)]
 pub enum PairUp {
     Done,
     Shape,

@@ -10,7 +10,7 @@ use numbers::{Halfedge, NamedHalfedge};
 use soundness::Checked;
 
 // What remove_if_folded answers.
-#[derive(Drop)]
+#[derive(Clone, Copy)]
 pub enum RemoveIfFolded {
     Done,
     Shape,

@@ -14,7 +14,7 @@ use dedupeedges::DedupeEdges;
 
 // How many half-edges and vertices are in use afterwards.
 #[repr(C)]
-#[derive(Drop)]
+#[derive(Clone, Copy)]
 pub struct DedupeEdgeAnswer {
     pub number: u32,
     pub row: usize,
@@ -23,7 +23,7 @@ pub struct DedupeEdgeAnswer {
 }
 
 #[repr(C)]
-#[derive(Drop)]
+#[derive(Clone, Copy)]
 pub struct DedupeEdgesAnswer {
     pub number: u32,
     pub row: usize,
@@ -32,7 +32,7 @@ pub struct DedupeEdgesAnswer {
 }
 
 #[repr(C)]
-#[derive(Drop)]
+#[derive(Clone, Copy)]
 pub struct CleanupTopologyAnswer {
     pub number: u32,
     pub row: usize,
@@ -42,7 +42,7 @@ pub struct CleanupTopologyAnswer {
 
 // How many vertices are in use afterwards; the squared length and the limit are bit patterns.
 #[repr(C)]
-#[derive(Drop)]
+#[derive(Clone, Copy)]
 pub struct CollapseEdgeAnswer {
     pub number: u32,
     pub row: usize,

@@ -6,7 +6,7 @@ ghost use Rattle.texts.specs.Appended.{Appended, line};
 ghost use Rattle.report.specs.Report.{Listed, one as Report·one, answer_word, visit_word, euler_word, commas, live_halfedges, live_triangles, euler, text_of};
 
 // What is reported: added and steps, an answer, the least row that is not in order, or the first bad line.
-#[derive(Drop)]
+#[derive(Clone, Copy)]
 pub enum Outcome {
     Done(usize, usize),
     Refused(usize),

@@ -9,14 +9,14 @@ ghost use Rattle.rings.specs.Ring.{listing, AllIn, ListedIn, ring, hit, find};
 use numbers::{Halfedge, NamedHalfedge};
 
 // How many neighbours were listed, or that the walk never ends.
-#[derive(Drop)]
+#[derive(Clone, Copy)]
 pub enum Ring {
     Listed(usize),
     Endless,
 }
 
 // Where in the list.
-#[derive(Drop)]
+#[derive(Clone, Copy)]
 pub enum Hit {
     At(usize),
     Nothing,

@@ -9,14 +9,14 @@ use growth::{Grown, Limits};
 use numbers::Halfedge;
 
 // How the rounds end: the net, and whether it is clean.
-#[derive(Drop)]
+#[derive(Clone, Copy)]
 pub struct Rounded {
     pub grown: Grown,
     pub clean: bool,
 }
 
 // A round was the last, or the rounds go on.
-#[derive(Drop)]
+#[derive(Clone, Copy)]
 enum Made {
     Last(Rounded),
     On(Grown),

@@ -17,7 +17,7 @@ pub const PAIR: usize = 2;
 pub const PROP: usize = 3;
 
 // The four numbers of a row as they stand there.
-#[derive(Drop)]
+#[derive(Clone, Copy)]
 pub struct Row {
     pub start: i32,
     pub end: i32,

@@ -6,7 +6,7 @@ ghost use Rattle.rows.specs.Triples.{lent_triples, triple, put_triple, reference
 use numbers::Vertex;
 
 // The bit patterns of x, y and z.
-#[derive(Drop)]
+#[derive(Clone, Copy)]
 pub struct Bits3 {
     pub x: u64,
     pub y: u64,
@@ -14,7 +14,7 @@ pub struct Bits3 {
 }
 
 // A face reference: mesh_id, coplanar_id and face_id.
-#[derive(Drop)]
+#[derive(Clone, Copy)]
 pub struct Reference {
     pub mesh: i32,
     pub coplanar: i32,

@@ -13,7 +13,7 @@ use soundness::Checked;
 use updatevert::UpdateVert;
 
 #[repr(C)]
-#[derive(Drop)]
+#[derive(Clone, Copy)]
 pub struct RowAnswer {
     pub number: u32,
     pub row: usize,
@@ -21,7 +21,7 @@ pub struct RowAnswer {
 
 // update_vert's own.
 #[repr(C)]
-#[derive(Drop)]
+#[derive(Clone, Copy)]
 pub struct UpdateAnswer {
     pub number: u32,
     pub row: usize,

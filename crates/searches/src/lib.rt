@@ -10,7 +10,7 @@ use numbers::{Halfedge, NamedHalfedge, Vertex};
 
 // Where a search stops: at a half-edge that starts at the vertex sought; back round; or it cannot go on, since a row isn't there or the
 // walk never ends.
-#[derive(Drop)]
+#[derive(Clone, Copy)]
 pub enum Sought {
     Met(Halfedge),
     Round(Halfedge),

@@ -34,7 +34,7 @@ pub fn first_out(rows: &[i32], halfedges: usize, vertices: usize) -> NamedHalfed
 }
 
 // What check_net answers: sound, a shape that does not fit, or the least row that is not in order.
-#[derive(Drop)]
+#[derive(Clone, Copy)]
 pub enum Checked {
     Sound,
     Shape,

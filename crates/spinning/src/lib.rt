@@ -14,7 +14,7 @@ use steps::Run;
 
 // What stays the same while the loop turns: the half-edges in use, the vertex capacity, whether props are carried, the edge and its
 // partner.
-#[derive(Drop)]
+#[derive(Clone, Copy)]
 pub struct Ends {
     pub halfedges: usize,
     pub capacity: usize,
@@ -24,7 +24,7 @@ pub struct Ends {
 }
 
 // One turn: the loop is out; it goes on to a half-edge; or a loop was formed, and the list is cut.
-#[derive(Drop)]
+#[derive(Clone, Copy)]
 pub enum Turn {
     Out(Run),
     On(Run, Halfedge),
@@ -32,7 +32,7 @@ pub enum Turn {
 }
 
 // How the steps run, and where the last update begins.
-#[derive(Drop)]
+#[derive(Clone, Copy)]
 pub struct Last {
     pub run: Run,
     pub start: Halfedge,

@@ -13,7 +13,7 @@ use orderpass::Ordered;
 
 // What split_pinched_verts answers: vertices added and half-edges visited; or a shape that does not fit, a buffer too short, the
 // least row that is not in order, a fan that does not close, no room for a copy.
-#[derive(Drop)]
+#[derive(Clone, Copy)]
 pub enum Split {
     Done(usize, usize),
     Shape,

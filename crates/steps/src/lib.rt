@@ -8,7 +8,7 @@ ghost use Rattle.steps.specs.Steps.{middle, begun_run, with_vertices, ended_run,
 ghost use Rattle.steps.specs.Settle.{settled_by};
 
 // Whether the steps go on: the next append would pass a capacity; a row isn't there, or a walk never ends.
-#[derive(Drop)]
+#[derive(Clone, Copy)]
 pub enum How {
     Going,
     NoRoom,
@@ -16,7 +16,7 @@ pub enum How {
 }
 
 // The vertices in use so far, and whether the steps go on.
-#[derive(Drop)]
+#[derive(Clone, Copy)]
 pub struct Run {
     pub vertices: usize,
     pub how: How,

@@ -14,7 +14,7 @@ use pairing::PairUp;
 
 // How many rows of each array are in use, and how many numbers a property row has.
 #[repr(C)]
-#[derive(Drop)]
+#[derive(Clone, Copy)]
 pub struct Used {
     pub halfedges: usize,
     pub vertices: usize,
@@ -25,7 +25,7 @@ pub struct Used {
 }
 
 #[repr(C)]
-#[derive(Drop)]
+#[derive(Clone, Copy)]
 pub struct Point {
     pub x: f64,
     pub y: f64,
@@ -33,20 +33,20 @@ pub struct Point {
 }
 
 #[repr(C)]
-#[derive(Drop)]
+#[derive(Clone, Copy)]
 pub struct Answer {
     pub number: u32,
 }
 
 #[repr(C)]
-#[derive(Drop)]
+#[derive(Clone, Copy)]
 pub struct NextAnswer {
     pub number: u32,
     pub next: i32,
 }
 
 #[repr(C)]
-#[derive(Drop)]
+#[derive(Clone, Copy)]
 pub struct TriAnswer {
     pub number: u32,
     pub first: i32,
@@ -56,7 +56,7 @@ pub struct TriAnswer {
 
 // The squared length and the limit are bit patterns.
 #[repr(C)]
-#[derive(Drop)]
+#[derive(Clone, Copy)]
 pub struct LengthAnswer {
     pub number: u32,
     pub squared_length: u64,

@@ -11,7 +11,7 @@ use numbers::{Halfedge, NamedHalfedge, NamedVertex, Vertex};
 use soundness::Checked;
 
 // What update_vert answers.
-#[derive(Drop)]
+#[derive(Clone, Copy)]
 pub enum UpdateVert {
     Done,
     Shape,
