@@ -1,4 +1,6 @@
 // How a collapse carries prop_vert about the start of its edge. Nothing here asks for rows in order.
+#![tactic(auto)]
+
 ghost use Rattle.std.specs.Prelude.{◌≡◌, true, ◌*◌, ◌<◌, ◌≤◌};
 ghost use Rattle.numbers.specs.Numbers.{halfedge_number};
 ghost use Rattle.rows.specs.Triples.{lent_triples};

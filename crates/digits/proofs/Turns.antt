@@ -12,7 +12,7 @@ use lib.ListN.{length, get_or, drop, drop_of_length-le}
 use lib.Seq.{drop-cons}
 use Rattle.laws.proofs.Tests.{and2, by_test}
 use Rattle.digits.proofs.Gots.{got_value, never}
-use Rattle.digits.specs.Steps.{got, bad, on, first_byte, after, digit, most, more, count, hex_from}
+use Rattle.digits.specs.Steps.{got, bad, first_byte, after, digit, most, more, count, hex_from}
 
 -- the byte that was read stands first, or there is none
 pub cons : (s : List ℕ) (b : ℕ) (r : List ℕ) → got b r ≡ first_byte s → s ≡ b ∷ r

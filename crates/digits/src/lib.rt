@@ -1,5 +1,7 @@
 // Numbers in text, read at a place that goes by value: decimal, −1 or decimal, and bit patterns in hexadecimal. One function
 // reads a byte of the text; no other asks where it ends.
+#![tactic(auto)]
+
 ghost use Rattle.std.specs.Prelude.{◌≡◌, [], ◌∷◌, ◌≤◌, drop};
 ghost use Rattle.digits.specs.Steps.{first_byte, after, count, number, more as Steps·more, hex_from, most, digit as Steps·digit, count_then, number_then, hex_then};
 ghost use Rattle.digits.specs.Told.{byte_got, Steps, past_got, count_got, number_got, bits_got};

@@ -1,12 +1,11 @@
 -- Entries behind one another: one list after the other, and what stands in the list from its front on when all were put there.
 use mathlib.Core.Path.{◌≡◌, refl, sym, ap, ◌∙◌}
-use mathlib.Core.Bool.{true, false}
 use mathlib.Core.List.{List, [], ◌∷◌, ◌++◌, append-nil, append_assoc}
 use Prim.Native.Nat.{ℕ, zero, suc, ◌+◌, ◌-◌, ◌≤◌, ◌<◌}
 use native.Mathlib.Omega.{arith}
 use borrow.Author.Tests.{ltb-true, ltb-false, le-ltb}
 use lib.Dec.{ltb}
-use lib.ListN.{length, get_or, set, take, drop, length-append, length-set}
+use lib.ListN.{length, get_or, set, take, drop, length-append}
 use lib.Seq.{drop-cons, set_at, append_snoc}
 use Rattle.laws.proofs.Tests.{by_test}
 use Rattle.duplicates.specs.Scan.{Entries, entries, push, push_all, listed}

@@ -10,7 +10,7 @@ use native.Mathlib.Decide.{ℕ_discrete}
 use borrow.Author.Tests.{eq-eqb, ne_eqb}
 use lib.Dec.{eqb}
 use lib.IntN.{ℤ}
-use lib.ListN.{length, get_or, set, take, drop, length-set}
+use lib.ListN.{length, get_or, set, drop, length-set}
 use lib.Seq.{get_or-set_same, get_or-set_other, drop-set-lt}
 use Rattle.laws.proofs.Tests.{by_test, or_assoc, or_comm}
 use Rattle.numbers.specs.Numbers.{Named, at, nothing, names, named_or}
@@ -18,7 +18,7 @@ use Rattle.numbers.specs.Next.{next}
 use Rattle.numbers.proofs.Names.{names_below}
 use Rattle.numbers.proofs.NextLaws.{next_in}
 use Rattle.rows.specs.Halfedges.{pair_of, is_started, is_ended}
-use Rattle.searches.specs.Duplicates.{turns, fan, is_duplicate, those, is_in, Search, search, search_row, search_rows, duplicates}
+use Rattle.searches.specs.Duplicates.{turns, fan, is_duplicate, those, is_in, search_row, search_rows, duplicates}
 use Rattle.duplicates.specs.Scan.{Entries, entries, push_all, picked, is_marked, is_passed, mark_all, Scan, scan, scan_row, found}
 use Rattle.duplicates.proofs.Entries.{push_append, pushed}
 

@@ -1,5 +1,7 @@
 // The duplicates of a net, listed: for each fan, in the order of its walk, the half-edges for which a smaller one of the fan ends at the
 // same vertex. The rows need not be in order.
+#![tactic(auto)]
+
 ghost use Rattle.std.specs.Prelude.{◌≡◌, cond, ◌&&◌, ℕ, ◌<◌, ◌≤◌, ltb, length, get_or, drop};
 ghost use Rattle.numbers.specs.Next.{most_halfedges};
 ghost use Rattle.numbers.specs.Numbers.{halfedge_number, halfedge_named, names, is_named};

@@ -1,5 +1,7 @@
 // Questions about half-edges, asked by their number type: whether one has a partner, a start, an end, and how two of them meet.
 // `rows::corners` answers the same of a triangle's corners 0, 1 and 2.
+#![tactic(auto)]
+
 ghost use Rattle.std.specs.Prelude.{◌≡◌, ◌&&◌, ◌<◌, ◌^◌, pos};
 ghost use Rattle.laws.specs.Integers.{eq_z};
 ghost use Rattle.numbers.specs.Numbers.{names, halfedge_number, is_named};

@@ -1,5 +1,5 @@
 -- The tests by which a NaN is told, as a value and as a bit pattern: from the laws of lib.Ieee and by computing.
-use mathlib.Core.Path.{◌≡◌, refl, sym, ap, subst, ◌∙◌}
+use mathlib.Core.Path.{◌≡◌, refl, sym, subst, ◌∙◌}
 use mathlib.Core.Bool.{Bool, true, false, not, true≢false}
 use Prim.Native.Nat.{ℕ, ◌<◌, ◌≤◌, ◌%◌}
 use lib.Dec.{T}

@@ -1,4 +1,6 @@
 // Vectors of floats by value, the one place where bits become floats and floats become bits, and the short test.
+#![tactic(auto)]
+
 ghost use Rattle.std.specs.Prelude.{◌≡◌};
 ghost use Rattle.std.specs.Float.{binary64};
 ghost use Rattle.std.specs.Float.Ieee.{of_bits, to_bits};

@@ -1,5 +1,7 @@
 // Taking two triangles out that have folded onto each other: the step of remove_if_folded, whose entry is the crate removefolded.
 // e is the edge and f its partner; e1, e2 and f1, f2 are the second and third rows of their triangles.
+#![tactic(auto)]
+
 ghost use Rattle.std.specs.Prelude.{◌≡◌, List, ℕ, ◌<◌};
 ghost use Rattle.numbers.specs.Next.{next};
 ghost use Rattle.numbers.specs.Numbers.{halfedge_number};

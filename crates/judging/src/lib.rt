@@ -1,4 +1,6 @@
 // How an edge is judged before a collapse writes anything: whether it is short, and what is at its rows. Nothing here asks for rows in order.
+#![tactic(auto)]
+
 ghost use Rattle.std.specs.Prelude.{◌≡◌, ◌<◌, ◌^◌};
 ghost use Rattle.numbers.specs.Numbers.{halfedge_number, vertex_number};
 ghost use Rattle.rows.specs.Triples.{lent_triples, triple};

@@ -1,5 +1,5 @@
 -- A test of equality on ℤ that computes.
-use Rattle.std.specs.Prelude.{Bool, true, false, eqb, ℤ, pos, negsuc}
+use Rattle.std.specs.Prelude.{Bool, false, eqb, ℤ, pos, negsuc}
 
 abbrev pub eq_z : ℤ → ℤ → Bool
 eq_z (pos a) (pos b) = eqb a b

@@ -1,1 +1,3 @@
+#![tactic(auto)]
+
 // Laws of truth values, signed numbers and lists that the crates above cite. There is no code here.

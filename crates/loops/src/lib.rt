@@ -1,5 +1,7 @@
 // Forming a loop: both ends of an edge are copied and the net is joined the other way across two edges. The step of form_loop;
 // its entry is the crate formloop.
+#![tactic(auto)]
+
 ghost use Rattle.std.specs.Prelude.{◌≡◌, List, ℕ, ◌<◌, ◌≤◌, ◌^◌, ℤ};
 ghost use Rattle.numbers.specs.Numbers.{halfedge_number, vertex_number};
 ghost use Rattle.rows.specs.Halfedges.{start, end, lent_halfedges};

@@ -12,12 +12,12 @@ use lib.ListN.{length, take, drop, length-append, take-append-drop}
 use lib.Seq.{take_all, take-append-add}
 use Rattle.laws.proofs.Tests.{by_test}
 use Rattle.digits.specs.Exact.{IsCount, IsNumber}
-use Rattle.digits.specs.Written.{newline, comma, glyph, decimal, signed, hex_digits, hex}
+use Rattle.digits.specs.Written.{glyph, decimal, signed, hex_digits}
 use Rattle.digits.proofs.Glyphs.{decimal_one, decimal_more}
 use Rattle.rows.specs.declared.halfedges.Row.{Row}
 use Rattle.rows.specs.declared.triples.Bits3.{Bits3}
 use Rattle.meshfile.specs.declared.Limits.{Limits}
-use Rattle.meshfile.specs.Format.{form_line, verts_word, tris_word, position_word, halfedge_word, count_line, position_line, halfedge_line, PositionFits, RowFits, all, Each, NoLine, headed, file, Few, FirstBad, bad_form, bad_verts, bad_tris, bad_position, bad_halfedge, more_text}
+use Rattle.meshfile.specs.Format.{form_line, verts_word, tris_word, count_line, position_line, halfedge_line, PositionFits, RowFits, all, Each, NoLine, headed, file, Few, FirstBad, bad_form, bad_verts, bad_tris, bad_position, bad_halfedge, more_text}
 use Rattle.meshfile.specs.Steps.{Found, holding, too_large, first_bad, found, Means}
 use Rattle.meshfile.proofs.Right.{finds_right, right_found}
 

@@ -1,5 +1,7 @@
 // Form 1 of the mesh file, read from a text into lent half-edge and position rows. The text is checked as a whole before
 // anything is written: a file that is refused leaves the rows as they were.
+#![tactic(auto)]
+
 ghost use Rattle.std.specs.Prelude.{◌≡◌, ◌≤◌, min, drop};
 ghost use Rattle.rows.specs.Halfedges.{lent_halfedges, append_row};
 ghost use Rattle.rows.specs.Triples.{lent_triples, put_triple};

@@ -1,4 +1,6 @@
 // A net as it is lent: five arrays, and the counts of what is in use. What the counts must be, and room for more.
+#![tactic(auto)]
+
 ghost use Rattle.std.specs.Prelude.{◌≡◌, min};
 ghost use Rattle.net.specs.Net.{net};
 ghost use Rattle.net.specs.Counts.{triangle_capacity_over, halfedge_capacity_over, vertex_capacity_over, property_capacity_over, is_shaped, is_long, spare_holds, none_or_all, triangles_for, lent_properties};

@@ -1,5 +1,5 @@
 -- Two results that a contract allows agree: what is said tells the answer.
-use mathlib.Core.Path.{◌≡◌, refl, sym, ap, ◌∙◌}
+use mathlib.Core.Path.{◌≡◌, refl, sym, ◌∙◌}
 use native.Mathlib.Omega.{arith}
 use lib.IntN.{ℤ}
 use Rattle.answers.proofs.Laws.{values_agree, numbers_differ}

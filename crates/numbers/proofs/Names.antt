@@ -1,13 +1,13 @@
 -- What a signed number names is below the limit, and is the number; and a number below the limit is named.
-use mathlib.Core.Path.{◌≡◌, refl, ap}
-use mathlib.Core.Bool.{Bool, true, false, cond}
+use mathlib.Core.Path.{◌≡◌, ap}
+use mathlib.Core.Bool.{true}
 use Prim.Native.Nat.{ℕ, ◌<◌}
 use native.Mathlib.Omega.{arith}
 use borrow.Author.Tests.{ltb-true, lt-ltb}
 use lib.Dec.{ltb}
 use lib.IntN.{ℤ, pos, negsuc}
 use Rattle.laws.proofs.Tests.{by_test}
-use Rattle.numbers.specs.Numbers.{Named, at, nothing, names, is_named}
+use Rattle.numbers.specs.Numbers.{at, nothing, names, is_named}
 
 pub at_inj : {m n : ℕ} → at m ≡ at n → m ≡ n
 at_inj e = cc

@@ -1,23 +1,20 @@
 -- The laws of next. Among a net's half-edges it stays below a count that divides by 3, keeps the triangle, and comes back after
 -- three: so it is a bijection, and moves every one. On whole numbers it is the same rule, and h+1 and h−2 fit 32 bits but at the two refused.
 use mathlib.Core.Path.{◌≡◌, refl, sym, ap, ◌∙◌}
-use mathlib.Core.Bool.{Bool, true, false, cond, ◌||◌}
-use mathlib.Core.List.{List, [], ◌∷◌}
-use mathlib.Core.Logic.{◌⊎◌, inl, inr}
-use Prim.Native.Nat.{ℕ, zero, suc, ◌+◌, ◌-◌, ◌*◌, ◌/◌, ◌%◌, ◌<◌, ◌≤◌}
+use mathlib.Core.Bool.{true, false}
+use mathlib.Core.List.{[], ◌∷◌}
+use Prim.Native.Nat.{ℕ, zero, suc, ◌+◌, ◌-◌, ◌/◌, ◌%◌, ◌<◌, ◌≤◌}
 use native.Mathlib.Omega.{arith}
-use native.Mathlib.Nat.{lt_of_le_of_lt}
 use borrow.Author.Tests.{eq-eqb, ne_eqb, eqb-true, eqb-false, le-ltb}
 use lib.Dec.{eqb, ltb}
 use lib.IntN.{ℤ, pos, negsuc, neg_ℤ, nat_abs, ◌+ℤ◌, ◌-ℤ◌, +ℤ_one}
 use lib.Signed.{mag, quot_z, rem_z}
 use mir.Syntax.{w32}
 use mir.Val.{SFits}
-use Rattle.answers.specs.Answers.{Said, whole, done, bad_number}
+use Rattle.answers.specs.Answers.{whole, done, bad_number}
 use Rattle.answers.proofs.Laws.{values_agree, numbers_differ}
-use Rattle.laws.specs.Integers.{eq_z}
-use Rattle.laws.proofs.Tests.{by_test, or_cases, is_false}
-use Rattle.laws.proofs.Integers.{eq_z_yes, eq_z_no, eq_z_true}
+use Rattle.laws.proofs.Tests.{by_test}
+use Rattle.laws.proofs.Integers.{eq_z_no}
 use Rattle.numbers.specs.Next.{next, next_z, no_next, next_answer}
 
 -- by where h stands in its triangle

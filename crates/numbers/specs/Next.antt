@@ -1,5 +1,5 @@
 -- next(h) is h+1, or h−2 where h+1 divides by 3; tri_of(h) is h, next(h), next(next(h)).
-use Rattle.std.specs.Prelude.{Bool, true, false, cond, ◌||◌, List, [], ◌∷◌, ℕ, ◌+◌, ◌-◌, ◌%◌, eqb, ℤ, pos, negsuc, ◌+ℤ◌, ◌-ℤ◌}
+use Rattle.std.specs.Prelude.{Bool, cond, ◌||◌, [], ◌∷◌, ℕ, ◌+◌, ◌-◌, ◌%◌, eqb, ℤ, pos, negsuc, ◌+ℤ◌, ◌-ℤ◌}
 use Rattle.std.specs.Int.Signed.{rem_z}
 use Rattle.answers.specs.Answers.{Said, whole, done, bad_number}
 use Rattle.laws.specs.Integers.{eq_z}

@@ -2,6 +2,8 @@
 //
 // The number inside is private to this crate. So one is made here alone: where a row's number is read, and at three places
 // besides, a caller's number after its test, a scan's counter and the number of an appended row.
+#![tactic(auto)]
+
 ghost use Rattle.std.specs.Prelude.{◌≡◌, true, ◌<◌, pos};
 ghost use Rattle.std.specs.Int.Signed.{le_z};
 ghost use Rattle.numbers.specs.Numbers.{halfedge_number, vertex_number, prop_row_number, names, is_named, placed, halfedge_named, vertex_named, prop_row_named};

@@ -1,5 +1,7 @@
 // What the owner scan tests of one half-edge, in a net that need not be sound: whether it is eligible, whether its pair points back, and where
 // it turns to.
+#![tactic(auto)]
+
 ghost use Rattle.std.specs.Prelude.{◌≡◌, ◌<◌, ◌≤◌};
 ghost use Rattle.numbers.specs.Numbers.{halfedge_number, halfedge_named, names};
 ghost use Rattle.rows.specs.Halfedges.{pair_of, lent_halfedges};

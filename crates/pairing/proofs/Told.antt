@@ -1,19 +1,18 @@
 -- What pair_up does in words: two half-edges in use are paired and nothing else is changed; otherwise no number is changed. And two
 -- results that its contract allows agree.
 use mathlib.Core.Path.{◌≡◌, refl, sym, ap, ◌∙◌}
-use mathlib.Core.Bool.{true, false}
 use mathlib.Core.List.{List, []}
 use Prim.Native.Nat.{ℕ, ◌<◌}
 use native.Mathlib.Decide.{ℕ_discrete}
 use native.Mathlib.Omega.{arith}
 use lib.IntN.{ℤ, pos}
 use lib.ListN.{length}
-use Rattle.answers.specs.Answers.{Said, done, shape, bad_number}
+use Rattle.answers.specs.Answers.{Said, done}
 use Rattle.answers.proofs.Laws.{numbers_differ}
 use Rattle.laws.proofs.Tests.{by_test}
 use Rattle.numbers.specs.Numbers.{Named, at, nothing, names}
 use Rattle.numbers.proofs.Names.{names_at}
-use Rattle.rows.specs.Halfedges.{Column, start, end, pair, prop, offset, column, pair_of, set_column, lent_halfedges, rows_from}
+use Rattle.rows.specs.Halfedges.{Column, start, end, pair, prop, offset, pair_of, set_column, lent_halfedges}
 use Rattle.rows.proofs.Columns.{column_written, other_column, other_row, written_below, length_written}
 use Rattle.net.specs.declared.Counts.{Counts}
 use Rattle.net.specs.Net.{Net}

@@ -1,4 +1,6 @@
 // Pairing two half-edges: the step that surgery takes, and the entry pair_up.
+#![tactic(auto)]
+
 ghost use Rattle.std.specs.Prelude.{◌≡◌, ◌<◌, ◌≤◌};
 ghost use Rattle.numbers.specs.Next.{most_halfedges};
 ghost use Rattle.numbers.specs.Numbers.{halfedge_number, names};

@@ -1,10 +1,10 @@
 -- The quick pass: where all three rows of a triangle pass for live by tests of their own, so does each; and where every row of a net
 -- passes, every row is in order, since a partner's own test tells where the partner ends.
-use mathlib.Core.Path.{◌≡◌, refl, sym, ap, ◌∙◌}
-use mathlib.Core.Bool.{Bool, true, false, ◌&&◌}
+use mathlib.Core.Path.{◌≡◌, sym, ap, ◌∙◌}
+use mathlib.Core.Bool.{true, ◌&&◌}
 use mathlib.Core.List.{List}
-use mathlib.Core.Logic.{◌⊎◌, inl, inr, ⊎_elim}
-use Prim.Native.Nat.{ℕ, zero, suc, ◌+◌, ◌%◌, ◌<◌, ◌≤◌}
+use mathlib.Core.Logic.{inl, inr, ⊎_elim}
+use Prim.Native.Nat.{ℕ, ◌+◌, ◌%◌, ◌<◌}
 use native.Mathlib.Nat.{add-zero}
 use native.Mathlib.Omega.{arith}
 use lib.IntN.{ℤ, pos, nat_abs, pos-ne-negsuc}
@@ -13,15 +13,15 @@ use lib.Dec.{eqb, ltb}
 use Rattle.laws.proofs.Tests.{by_test, and2, and3}
 use Rattle.laws.specs.Integers.{eq_z}
 use Rattle.laws.proofs.Integers.{eq_z_true}
-use Rattle.numbers.specs.Numbers.{Named, at, nothing}
+use Rattle.numbers.specs.Numbers.{nothing}
 use Rattle.numbers.specs.Next.{next}
 use Rattle.numbers.proofs.NextLaws.{first_next, second_next, third_next, next_round}
 use Rattle.rows.specs.Halfedges.{start, end, pair, start_of, end_of, pair_of, rows_from}
 use Rattle.rows.proofs.Columns.{column_from}
-use Rattle.net.specs.Sound.{start_vertex, partner, Paired, DeadRow, LiveRow, InOrder}
-use Rattle.rowtests.specs.Order.{empty3, apart3, differ, in_order, first_failing, least_out}
+use Rattle.net.specs.Sound.{partner, DeadRow, LiveRow, InOrder}
+use Rattle.rowtests.specs.Order.{empty3, apart3, differ, in_order, least_out}
 use Rattle.rowtests.specs.inner.Triangle.{TriangleAt}
-use Rattle.quickpass.specs.inner.Quick.{placed, placed3, chained, chained3, Met, Met3, OwnTest, OwnTests, Passed, PassedFrom, RowsAt}
+use Rattle.quickpass.specs.inner.Quick.{placed, placed3, chained, chained3, Met, Met3, OwnTest, OwnTests, PassedFrom, RowsAt}
 use Rattle.rowtests.proofs.Search.{all_pass, none_fails}
 use Rattle.rowtests.proofs.Right.{named_is, apart_yes, in_order_yes, yes_in_order}
 use Rattle.rowtests.proofs.Triangle.{all_dead}

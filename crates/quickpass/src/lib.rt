@@ -1,5 +1,7 @@
 // The quick pass over all rows, which makes fewer tests than each row's own: where every row passes, every row is in order, and where one does
 // not, nothing is known.
+#![tactic(auto)]
+
 ghost use Rattle.std.specs.Prelude.{◌≡◌, true, ◌+◌, ◌<◌, ◌≤◌};
 ghost use Rattle.numbers.specs.Numbers.{nothing};
 ghost use Rattle.rows.specs.Halfedges.{lent_halfedges};

@@ -1,4 +1,6 @@
 // The ring of a vertex that a collapse keeps: its neighbours are listed, and the list is searched. Nothing here asks for rows in order.
+#![tactic(auto)]
+
 ghost use Rattle.std.specs.Prelude.{◌≡◌, ◌<◌, ◌≤◌, length, get_or, drop};
 ghost use Rattle.numbers.specs.Numbers.{halfedge_number};
 ghost use Rattle.numbers.specs.Next.{most_halfedges};

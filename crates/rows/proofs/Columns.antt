@@ -7,7 +7,7 @@ use Prim.Native.Nat.{ℕ, ◌+◌, ◌-◌, ◌*◌, ◌<◌, ◌≤◌}
 use native.Mathlib.Omega.{arith}
 use lib.Dec.{eqb}
 use lib.IntN.{ℤ, pos}
-use lib.ListN.{length, get_or, set, take, drop, length-set, length-drop, get_or-append}
+use lib.ListN.{length, get_or, take, drop, length-set, length-drop, get_or-append}
 use lib.Seq.{get_or-set_same, get_or-set_other, get_or-drop, drop-set-lt, get_or-take, length-take-le}
 use Rattle.laws.proofs.Stretches.{put_before, put_in, put_behind, length_put_at, length_over, length_filled, drop_more, drop_over, over_back}
 use Rattle.rows.specs.declared.halfedges.Row.{Row}

@@ -1,8 +1,8 @@
 -- The test `in_order` holds exactly when the word `InOrder` does: clause by clause, dead and live.
 use mathlib.Core.Path.{◌≡◌, refl, sym, ap, ◌∙◌}
-use mathlib.Core.Bool.{Bool, true, false, ◌&&◌, ◌||◌, not}
+use mathlib.Core.Bool.{true, false, ◌&&◌}
 use mathlib.Core.List.{List}
-use mathlib.Core.Logic.{◌⊎◌, inl, inr, ⊎_elim}
+use mathlib.Core.Logic.{inl, inr, ⊎_elim}
 use Prim.Native.Nat.{ℕ, ◌<◌}
 use native.Mathlib.Omega.{arith}
 use borrow.Author.Tests.{not-true, le-leb}
@@ -14,7 +14,7 @@ use Rattle.numbers.specs.Numbers.{Named, at, nothing, names, is_named}
 use Rattle.numbers.specs.Next.{next}
 use Rattle.numbers.proofs.Names.{names_is, names_below, names_at}
 use Rattle.rows.specs.Halfedges.{start_of, end_of, pair_of, none, is_empty, is_paired}
-use Rattle.net.specs.Sound.{partner, start_vertex, end_vertex, Paired, Empty, DeadRow, LiveRow, InOrder}
+use Rattle.net.specs.Sound.{partner, Paired, Empty, DeadRow, LiveRow, InOrder}
 use Rattle.rowtests.specs.Order.{empty3, paired3, apart3, differ, mirrors, mirrored_by, is_live, in_order}
 
 -- a number in 0..limit is one of these

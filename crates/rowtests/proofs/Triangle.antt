@@ -1,7 +1,7 @@
 -- The three rows of one triangle, read from the part that starts at its first: what holds of the whole triangle is the same
 -- for all three, so each row is in order by the triangle's tests and its own.
-use mathlib.Core.Path.{◌≡◌, refl, sym, ap, ◌∙◌}
-use mathlib.Core.Bool.{Bool, true, false, ◌&&◌, ◌||◌, not}
+use mathlib.Core.Path.{◌≡◌, refl}
+use mathlib.Core.Bool.{Bool, true, false, ◌&&◌, ◌||◌}
 use mathlib.Core.List.{List}
 use Prim.Native.Nat.{ℕ, ◌+◌, ◌%◌, ◌≤◌}
 use native.Mathlib.Nat.{add-zero}
@@ -9,7 +9,6 @@ use native.Mathlib.Omega.{arith}
 use lib.IntN.{ℤ}
 use Rattle.laws.proofs.Tests.{round3, and2}
 use Rattle.numbers.specs.Numbers.{Named, at, nothing, names}
-use Rattle.numbers.specs.Next.{next}
 use Rattle.numbers.proofs.NextLaws.{first_next, second_next, third_next}
 use Rattle.rows.specs.Halfedges.{start, end, pair, start_of, end_of, pair_of, is_empty, is_paired, lent_halfedges, rows_from}
 use Rattle.rows.proofs.Columns.{column_from, lent_from}

@@ -1,4 +1,6 @@
 // Whether the rows of one triangle are in order: the tests of its three corners, and the least of its rows that is not.
+#![tactic(auto)]
+
 ghost use Rattle.std.specs.Prelude.{◌≡◌, ◌+◌, ◌<◌, ◌≤◌, ◌^◌};
 ghost use Rattle.numbers.specs.Numbers.{halfedge_named, halfedge_number, names};
 ghost use Rattle.rows.specs.Halfedges.{lent_halfedges, pair_of};

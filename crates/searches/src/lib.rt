@@ -1,5 +1,7 @@
 // Searches about a vertex, over rows that need not be in order. A search stands at half-edges that end there, goes from each to the
 // partner of its next, and stops the moment it meets one that starts at the vertex sought, or comes back round.
+#![tactic(auto)]
+
 ghost use Rattle.std.specs.Prelude.{◌≡◌, suc, ◌<◌, ◌^◌};
 ghost use Rattle.numbers.specs.Numbers.{halfedge_number, vertex_number};
 ghost use Rattle.steps.specs.Steps.{InUse};

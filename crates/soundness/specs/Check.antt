@@ -1,5 +1,5 @@
 -- The entry check_net: answers 1, then 3 with the least row not in order, else 0.
-use Rattle.std.specs.Prelude.{cond, [], ◌∷◌}
+use Rattle.std.specs.Prelude.{cond, []}
 use Rattle.answers.specs.Answers.{Said, done, shape, unsound}
 use Rattle.numbers.specs.Numbers.{Named, at, nothing, halfedge_number}
 use Rattle.net.specs.declared.Counts.{Counts}

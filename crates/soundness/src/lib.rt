@@ -1,4 +1,6 @@
 // Soundness of a net: triangle by triangle, the least row that is not in order; and the entry check_net.
+#![tactic(auto)]
+
 ghost use Rattle.std.specs.Prelude.{◌≡◌, ◌+◌, ◌%◌, ◌<◌, ◌≤◌};
 ghost use Rattle.numbers.specs.Next.{most_halfedges};
 ghost use Rattle.numbers.specs.Numbers.{halfedge_named};

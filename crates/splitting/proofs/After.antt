@@ -1,16 +1,15 @@
 -- A net that was sound is sound after the split, over the vertices that there are then.
 use mathlib.Core.Path.{◌≡◌, sym, ap, ◌∙◌}
 use mathlib.Core.List.{List}
-use mathlib.Core.Logic.{◌⊎◌, inl, inr, ◌≢◌}
+use mathlib.Core.Logic.{inl, inr}
 use Prim.Native.Nat.{ℕ, ◌+◌, ◌<◌, ◌≤◌}
-use native.Mathlib.Omega.{arith}
 use lib.IntN.{ℤ, pos, nat_abs}
 use Rattle.numbers.specs.Next.{next}
-use Rattle.rows.specs.Halfedges.{start_of, end_of, pair_of}
+use Rattle.rows.specs.Halfedges.{start_of, end_of}
 use Rattle.net.specs.declared.Counts.{Counts}
 use Rattle.net.specs.Net.{Net, net}
 use Rattle.net.specs.Counts.{with_vertices, vertex_capacity}
-use Rattle.net.specs.Sound.{start_vertex, partner, turn, Live, LiveRow, Empty, DeadRow, InOrder, Sound}
+use Rattle.net.specs.Sound.{start_vertex, partner, turn, Live, LiveRow, Empty, InOrder, Sound}
 use Rattle.net.proofs.Shape.{shaped_with}
 use Rattle.net.proofs.Sound.{empty_not_live, live_row_live, partner_live, next_live, pair_involution}
 use Rattle.turning.specs.Fan.{Reach}

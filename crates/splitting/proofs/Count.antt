@@ -1,6 +1,6 @@
 -- The counting pass: no fan of a sound net is left open, and the copies it counts are the fans less the distinct start vertices. It goes
 -- as the other pass goes, with no row written.
-use mathlib.Core.Path.{◌≡◌, refl, sym, ap, ◌∙◌, subst}
+use mathlib.Core.Path.{◌≡◌, refl, sym, ap, ◌∙◌}
 use mathlib.Core.Logic.{◌≢◌}
 use mathlib.Core.List.{List, [], ◌∷◌, ◌++◌}
 use Prim.Native.Nat.{ℕ, zero, suc, ◌+◌, ◌≤◌, ◌<◌}
@@ -15,7 +15,7 @@ use Rattle.net.specs.Sound.{start_vertex, turn, Live}
 use Rattle.turning.specs.Walk.{walk, walk_end}
 use Rattle.turning.proofs.Walk.{walk_home}
 use Rattle.splitting.specs.inner.Needs.{SoundRows}
-use Rattle.splitting.specs.Steps.{noted, Tallied, tallied, unclosed, one_more, if_closed, count_fan, count_row, count_step, and_then, count_rows}
+use Rattle.splitting.specs.Steps.{noted, Tallied, tallied, unclosed, one_more, if_closed, count_row, count_step, and_then, count_rows}
 use Rattle.splitting.specs.Promise.{Fans, Starts}
 use Rattle.splitting.proofs.Inv.{Done, Inv, init, flag_clear, flag_set, mark_set, skip, first, later, start_here, end_count, put, put_wrote}
 use Rattle.splitting.proofs.Net.{T, row_of, same, in_v, start_live}

@@ -1,20 +1,17 @@
 -- The rows of a sound net: they turn, all of a fan start at one vertex in use, and walks can be made over them. Walks read pairs alone,
 -- so they can be made over any rows with these pairs.
-use mathlib.Core.Path.{◌≡◌, refl, sym, ap, ◌∙◌, fun_ext}
+use mathlib.Core.Path.{◌≡◌, sym, ap, ◌∙◌, fun_ext}
 use mathlib.Core.List.{List}
 use mathlib.Core.Logic.{◌⊎◌, inl, inr}
-use Prim.Native.Nat.{ℕ, ◌<◌, ◌≤◌}
-use native.Mathlib.Omega.{arith}
-use lib.IntN.{ℤ, pos, negsuc, nat_abs, pos-ne-negsuc}
+use Prim.Native.Nat.{ℕ, ◌<◌}
+use lib.IntN.{ℤ, pos, nat_abs, pos-ne-negsuc}
 use lib.ListN.{length}
-use Rattle.numbers.specs.Numbers.{names, at, nothing}
 use Rattle.numbers.specs.Next.{next}
-use Rattle.numbers.proofs.Names.{names_is, names_at, nothing_not_at}
-use Rattle.rows.specs.Halfedges.{start_of, pair_of, lent_halfedges}
+use Rattle.rows.specs.Halfedges.{start_of, pair_of}
 use Rattle.net.specs.declared.Counts.{Counts}
 use Rattle.net.specs.Net.{Net}
-use Rattle.net.specs.Sound.{start_vertex, partner, turn, Live, LiveRow, DeadRow, Sound}
-use Rattle.net.proofs.Sound.{live_row, turn_live, turn_start, live_or_dead, partner_live}
+use Rattle.net.specs.Sound.{start_vertex, turn, Live, LiveRow, DeadRow, Sound}
+use Rattle.net.proofs.Sound.{live_row, turn_live, turn_start, live_or_dead}
 use Rattle.net.proofs.Shape.{within}
 use Rattle.turning.specs.Fan.{Turning}
 use Rattle.turning.proofs.Fans.{turning}

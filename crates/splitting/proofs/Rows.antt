@@ -2,13 +2,13 @@
 use mathlib.Core.Path.{◌≡◌, refl, sym, ap, ◌∙◌, subst}
 use mathlib.Core.Logic.{◌⊎◌, inl, inr, ◌≢◌}
 use mathlib.Core.List.{List, [], ◌∷◌}
-use Prim.Native.Nat.{ℕ, ◌+◌, ◌<◌, ◌≤◌}
+use Prim.Native.Nat.{ℕ, ◌<◌}
 use native.Mathlib.Omega.{arith}
 use native.Mathlib.Decide.{ℕ_discrete}
 use lib.IntN.{ℤ, pos, nat_abs}
 use lib.ListN.{length, get_or, set, drop, length-set}
 use lib.Seq.{get_or-set_same, get_or-set_other, drop-set-lt}
-use Rattle.rows.specs.Halfedges.{Column, start, end, pair, prop, offset, column, set_column, start_of, end_of, pair_of, prop_of, lent_halfedges}
+use Rattle.rows.specs.Halfedges.{start, end, pair, prop, set_column, start_of, end_of, pair_of, prop_of, lent_halfedges}
 use Rattle.rows.proofs.Columns.{column_written, other_column, other_row, length_written}
 use Rattle.net.specs.Sound.{start_vertex, partner, Live}
 use Rattle.net.proofs.Sound.{partner_live, pair_involution, end_start}

@@ -4,28 +4,27 @@ use mathlib.Core.Logic.{◌⊎◌, inl, inr, ◌≢◌}
 use mathlib.Core.List.{List, [], ◌∷◌, ◌++◌}
 use Prim.Native.Nat.{ℕ, zero, suc, ◌+◌, ◌≤◌, ◌<◌}
 use native.Mathlib.Nat.{zero-add}
-use native.Mathlib.Numerals.{add-one}
 use native.Mathlib.Omega.{arith}
 use native.Mathlib.Decide.{ℕ_discrete}
 use lib.IntN.{ℤ, pos, nat_abs, pos-ne-negsuc}
 use lib.ListN.{length, get_or, set, drop, length-set, length-append}
-use lib.Seq.{get_or-set_same, get_or-set_other, drop-set-lt, sets, length-sets}
+use lib.Seq.{get_or-set_same, get_or-set_other, drop-set-lt, sets}
 use Rattle.laws.proofs.Stretches.{sets_append}
 use Rattle.numbers.specs.Numbers.{Named, at, nothing, names}
-use Rattle.numbers.proofs.Names.{names_is, names_below, names_at, nothing_not_at}
-use Rattle.rows.specs.Halfedges.{start_of, lent_halfedges}
+use Rattle.numbers.proofs.Names.{names_is, names_at, nothing_not_at}
+use Rattle.rows.specs.Halfedges.{start_of}
 use Rattle.rows.specs.Triples.{lent_triples, triple, put_triple}
 use Rattle.net.specs.Sound.{start_vertex, turn, Live, LiveRow, DeadRow}
-use Rattle.net.proofs.Sound.{live_dec, live_or_dead}
-use Rattle.turning.specs.Fan.{Turning, occ}
+use Rattle.net.proofs.Sound.{live_or_dead}
+use Rattle.turning.specs.Fan.{occ}
 use Rattle.turning.specs.Walk.{walk}
 use Rattle.turning.proofs.Orbit.{live_reach, reach_sym, reach_dec}
 use Rattle.turning.proofs.Walk.{walk_only}
 use Rattle.splitting.specs.inner.Needs.{SoundRows}
-use Rattle.splitting.specs.Steps.{flag_walk, noted, relabel_walk, State, state, first_fan, later_fan, split_fan, split_row, split_step, split_rows}
+use Rattle.splitting.specs.Steps.{noted, relabel_walk, State, state, first_fan, later_fan, split_fan, split_row, split_step, split_rows}
 use Rattle.splitting.specs.Promise.{Fans, Starts, IsSplit}
 use Rattle.splitting.proofs.Inv.{Done, From, Wrote, Inv, init, flag_clear, flag_set, mark_set, skip, first, later, start_here, fan_fits, end_fans, end_once, end_only, end_count}
-use Rattle.splitting.proofs.Net.{T, row_of, same, in_v, same_turn}
+use Rattle.splitting.proofs.Net.{T, same, in_v, same_turn}
 use Rattle.splitting.proofs.Rows.{length_flagged, flag_out, flag_in, flag_beyond, relabel_out, relabel_in, Kept, kept_refl, kept_walk}
 use Rattle.splitting.proofs.Positions.{Copied, copied_refl, copied_step, copied_reads}
 

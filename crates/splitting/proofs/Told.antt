@@ -2,17 +2,16 @@
 -- room exactly when the fans less the distinct start vertices exceed the free rows. No fan of a sound net is left open: answer 9 is
 -- never given past the soundness check. And two outcomes that the contract allows agree.
 use mathlib.Core.Path.{◌≡◌, refl, sym, ap, ◌∙◌, subst}
-use mathlib.Core.Bool.{Bool, true, false, cond, ◌&&◌}
-use mathlib.Core.List.{List, [], ◌∷◌}
+use mathlib.Core.Bool.{cond}
+use mathlib.Core.List.{List}
 use mathlib.Core.Logic.{◌⊎◌, inl, inr, ◌↔◌}
-use Prim.Native.Nat.{ℕ, suc, ◌+◌, ◌-◌, ◌≤◌, ◌<◌}
+use Prim.Native.Nat.{ℕ, ◌+◌, ◌-◌, ◌≤◌, ◌<◌}
 use native.Mathlib.Omega.{arith}
 use borrow.Author.Tests.{le-leb, leb-true, leb-false}
 use lib.Dec.{leb}
-use lib.IntN.{ℤ, pos}
-use lib.ListN.{length, get_or, take, drop}
-use lib.Seq.{length-take-le, length-sets}
-use Rattle.answers.specs.Answers.{Said, open_fan, no_room}
+use lib.IntN.{ℤ}
+use lib.ListN.{length, take, drop}
+use Rattle.answers.specs.Answers.{no_room}
 use Rattle.answers.proofs.Laws.{numbers_differ}
 use Rattle.laws.proofs.Tests.{by_test, both2}
 use Rattle.laws.proofs.Stretches.{length_filled, filled_reads, front_written, rest_kept}
@@ -21,10 +20,10 @@ use Rattle.numbers.specs.Numbers.{Named, at, nothing}
 use Rattle.rows.specs.Triples.{lent_triples}
 use Rattle.net.specs.declared.Counts.{Counts}
 use Rattle.net.specs.Net.{Net}
-use Rattle.net.specs.Counts.{is_shaped, is_long, vertex_capacity, vertex_capacity_over}
+use Rattle.net.specs.Counts.{vertex_capacity, vertex_capacity_over}
 use Rattle.net.specs.Sound.{start_vertex, turn, Live, Sound}
 use Rattle.net.proofs.Sound.{live_dec}
-use Rattle.net.proofs.Shape.{shaped_true, capacities, within}
+use Rattle.net.proofs.Shape.{shaped_true, capacities}
 use Rattle.rowtests.specs.Order.{least_out}
 use Rattle.soundness.proofs.Told.{least_is}
 use Rattle.turning.specs.Fan.{Lead, IsStart, Count}
@@ -32,8 +31,8 @@ use Rattle.turning.proofs.Count.{count_le, count_total}
 use Rattle.turning.proofs.Occ.{count_length}
 use Rattle.turning.proofs.Orbit.{lead_dec, is_start_dec}
 use Rattle.splitting.specs.inner.Needs.{SoundRows}
-use Rattle.splitting.specs.Steps.{Tallied, tallied, unclosed, count_rows, State, state, split_rows}
-use Rattle.splitting.specs.Split.{SplitOutcome, split_outcome, done_with, all_split, written, none_free, by_count, split_sound, by_order, buffers_long, split_pinched}
+use Rattle.splitting.specs.Steps.{Tallied, tallied, unclosed, count_rows, State, state}
+use Rattle.splitting.specs.Split.{SplitOutcome, all_split, written, none_free, split_sound, split_pinched}
 use Rattle.splitting.specs.Promise.{Fans, Starts, IsSplit}
 use Rattle.splitting.specs.Told.{SplitDone, IsFull}
 use Rattle.splitting.proofs.Net.{T, sound_rows}

@@ -15,7 +15,7 @@ use Rattle.rows.specs.Triples.{lent_triples, triples_from, over_triples, zero_tr
 use Rattle.rows.proofs.Columns.{laid_back}
 use Rattle.rows.proofs.Threes.{triples_more, laid_back_zeroed}
 use Rattle.steps.specs.declared.How.{How}
-use Rattle.steps.specs.Steps.{Middle, middle, running, refused, begin, ended, with_rows, with_positions}
+use Rattle.steps.specs.Steps.{Middle, middle, running, refused, begin, ended, with_positions}
 use Rattle.steps.specs.Settle.{settled, settled_by}
 
 pub record Frame (H : ℕ) (a b : Middle) : Type 0 where

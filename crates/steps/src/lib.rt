@@ -1,6 +1,8 @@
 // Steps of an operation that may be refused in the middle. What a step needs to know of those before it travels by value: how
 // many vertices are in use, and whether the steps go on. A step does nothing where an earlier one has refused, so an operation
 // is a plain row of steps, and one function at its end puts back what a refusal must put back.
+#![tactic(auto)]
+
 ghost use Rattle.std.specs.Prelude.{◌≡◌, ◌≤◌};
 ghost use Rattle.rows.specs.Halfedges.{lent_halfedges};
 ghost use Rattle.rows.specs.Triples.{lent_triples};

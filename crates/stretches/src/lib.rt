@@ -1,5 +1,7 @@
 // Stretches of a lent array: filled with zero, or laid over from another. Each element type has its own function and all
 // have one law.
+#![tactic(auto)]
+
 ghost use Rattle.std.specs.Prelude.{◌≡◌, ◌≤◌, pos, length};
 ghost use Rattle.laws.specs.Stretches.{over, filled};
 

@@ -1,4 +1,6 @@
 // Taking one triangle out of a net: the step of collapse_tri. Its entry is the crate collapsetri.
+#![tactic(auto)]
+
 ghost use Rattle.std.specs.Prelude.{◌≡◌, List, ℕ, ◌<◌};
 ghost use Rattle.numbers.specs.Numbers.{halfedge_number};
 ghost use Rattle.steps.specs.Steps.{middle, InUse};

@@ -1,5 +1,7 @@
 // The walk of update_vert: from a half-edge, set its end and the start of its next, and go to that next's partner, until another
 // is reached. The step writes as it goes; its entry is the crate updatevert.
+#![tactic(auto)]
+
 ghost use Rattle.std.specs.Prelude.{◌≡◌, List, ℕ, ◌<◌, ◌^◌};
 ghost use Rattle.numbers.specs.Numbers.{halfedge_number, vertex_number, halfedge_named};
 ghost use Rattle.steps.specs.Steps.{middle, InUse};

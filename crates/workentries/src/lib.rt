@@ -1,4 +1,6 @@
 // The entries of the work buffer in which the order of the visits is kept: marks read and set, places of the order read and written.
+#![tactic(auto)]
+
 ghost use Rattle.std.specs.Prelude.{◌≡◌, ◌+◌, ◌<◌, ◌^◌, eqb, length, get_or, set};
 ghost use Rattle.numbers.specs.Numbers.{halfedge_number, vertex_number};
 ghost use Rattle.ordering.specs.inner.Order.{entry_limit, copy_bit, see, place, is_walked, entry, last_entry};

@@ -1,0 +1,7 @@
+-- The triangle capacity is the least of the three limits, by what the calls ensure.
+use Rattle.net.specs.Counts.{triangle_capacity_over}
+use Rattle.net.proofs.triangle_capacity.Goals as goal
+
+pub returns : goal.returns
+unfolding triangle_capacity_over
+returns c = rw (c.lesser-2.ensures, c.lesser-by_halfedges.ensures, c.lesser.ensures, c.triangles_for-by_references.ensures, c.triangles_for-by_normals.ensures, c.lent.ensures, c.lent_references.ensures, c.lent-2.ensures)

@@ -1,0 +1,6 @@
+-- `numbers::vertex_known` meets its contract.
+use mir.Facts.{to_z-of_z}
+use Rattle.numbers.proofs.vertex_known.Goals as goal
+
+pub returns : goal.returns
+returns c = rw (to_z-of_z c.ranges.x) at c.known.ensures

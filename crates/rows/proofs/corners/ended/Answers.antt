@@ -1,0 +1,7 @@
+-- `rows::corners::ended` meets its contract.
+use Rattle.rows.specs.Halfedges.{column}
+use Rattle.rows.proofs.corners.ended.Goals as goal
+
+pub returns : goal.returns
+unfolding column
+returns c = c.counts_at.ensures

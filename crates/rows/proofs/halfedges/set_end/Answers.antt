@@ -1,0 +1,7 @@
+-- `rows::halfedges::set_end` meets its contract: the number is put into the column.
+use Rattle.rows.specs.Halfedges.{set_column}
+use Rattle.rows.proofs.halfedges.set_end.Goals as goal
+
+pub returns : goal.returns
+unfolding set_column
+returns c = rw (c.number.ensures, c.number-2.ensures) at c.put.ensures

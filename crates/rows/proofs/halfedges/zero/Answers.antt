@@ -1,0 +1,7 @@
+-- `rows::halfedges::zero` meets its contract.
+use Rattle.rows.specs.Halfedges.{zero_rows}
+use Rattle.rows.proofs.halfedges.zero.Goals as goal
+
+pub returns : goal.returns
+unfolding zero_rows
+returns c = c.zero_i32.ensures

@@ -1,0 +1,10 @@
+-- `stretches::zero_u64` meets its contract: the law of a filling loop, at this element.
+use Prim.Native.Nat.{◌-◌}
+use Rattle.laws.proofs.Loops.{Filling}
+use Rattle.stretches.proofs.zero_u64.Given as goal
+
+abbrev pub invariant-loop-i : goal.invariant-loop-i
+invariant-loop-i l = Filling 0 l.from l.to l.initial.s l.s l.i
+
+abbrev pub decreases-loop-i : goal.decreases-loop-i
+decreases-loop-i l = l.to - l.i
