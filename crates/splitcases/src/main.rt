@@ -1,32 +1,23 @@
-// Replays mesh files with stored outputs: for each file that an argument names, its name and what the report program prints.
-use libc::STDOUT_FILENO;
+// Replays mesh files with stored outputs: for each file that an argument names, its name and what the report program prints. A file that
+// cannot be opened is named on standard error, and the next one follows.
+#![tactic(auto)]
 
-fn replay(name: &[u8]) {
-    let file = os::open_read(name);
-    if file < 0 {
-        os::fail(name);
-        return;
+use std::rt::Files;
+use std::{env, fs, io};
+
+fn replay(rt: &(impl Files + Print + Eprint), name: &str) -> io::Result<()> {
+    match fs::open(rt, name) {
+        Ok(mut file) => {
+            println!(rt; "-- {name}")?;
+            filereport::print_report(rt, &mut file)
+        }
+        Err(error) => eprintln!(rt; "{name}: {error}"),
     }
-    io::write_all(STDOUT_FILENO, b"-- ");
-    io::write_all(STDOUT_FILENO, name);
-    io::write_all(STDOUT_FILENO, b"\n");
-    filereport::print_report(file);
-    libc::close(file);
 }
 
-fn named(i: usize) {
-    let mut name = io::buffer();
-    let n = os::arg(i, &mut name);
-    if os::errno() != 0 {
-        os::fail(b"argument");
-        return;
+fn main(rt: HostRuntime) -> io::Result<()> {
+    for name in env::args(&rt)?.skip(1) {
+        replay(&rt, name.as_str())?;
     }
-    replay(&name[..n]);
-}
-
-fn main() {
-    let count = os::arg_count();
-    for i in 1..count {
-        named(i);
-    }
+    Ok(())
 }

@@ -1,6 +1,9 @@
 // The report program: it reads a mesh file of form 1 from standard input, splits its pinched vertices, and prints the report.
-use libc::STDIN_FILENO;
+#![tactic(auto)]
 
-fn main() {
-    filereport::print_report(STDIN_FILENO);
+use std::io;
+use std::io::Input;
+
+fn main(rt: HostRuntime) -> io::Result<()> {
+    filereport::print_report(&rt, &mut rt.reader())
 }
