@@ -1,25 +1,28 @@
 // The exported functions called on stored calls: each prints what it says, and the buffers that it was lent as they are left.
+#![tactic(auto)]
+
 use counttold::{LoopAnswer, OwnersAnswer, SplitAnswer};
-use libc::STDOUT_FILENO;
+use std::io;
 use told::{Point, Used};
 
 // Writes the first n bytes of a text. Of what is written no contract can speak; the crates answertext and calltext say what the text is.
-pub fn print(text: &[u8], n: usize) {
+pub fn print(rt: &impl Print, text: &[u8], n: usize) -> io::Result<()> {
     if n <= text.len() {
-        io::write_all(STDOUT_FILENO, &text[..n]);
+        rt.write_all(&text[..n])?;
     }
+    Ok(())
 }
 
-pub fn next_halfedge(numbers: &[i32; 8]) {
+pub fn next_halfedge(rt: &impl Print, numbers: &[i32; 8]) -> io::Result<()> {
     let told = station::spoonferret_next_halfedge(numbers[0]);
-    let mut text = io::buffer();
+    let mut text = [0u8; 4096];
     let n = answertext::next(&mut text, 0, b"next_halfedge", told.number, told.next);
-    print(&text, n);
+    print(rt, &text, n)
 }
 
-pub fn tri_of(numbers: &[i32; 8]) {
+pub fn tri_of(rt: &impl Print, numbers: &[i32; 8]) -> io::Result<()> {
     let told = station::spoonferret_tri_of(numbers[0]);
-    let mut text = io::buffer();
+    let mut text = [0u8; 4096];
     let n = answertext::corners(
         &mut text,
         0,
@@ -29,7 +32,7 @@ pub fn tri_of(numbers: &[i32; 8]) {
         told.second,
         told.third,
     );
-    print(&text, n);
+    print(rt, &text, n)
 }
 
 fn point(x: u64, y: u64, z: u64) -> Point {
@@ -40,13 +43,13 @@ fn point(x: u64, y: u64, z: u64) -> Point {
     }
 }
 
-pub fn short_test(numbers: &[i32; 8], asked: &[u64; 12]) {
+pub fn short_test(rt: &impl Print, numbers: &[i32; 8], asked: &[u64; 12]) -> io::Result<()> {
     let from = point(asked[0], asked[1], asked[2]);
     let to = point(asked[3], asked[4], asked[5]);
     let tol = floats::float_of(asked[6]);
     let epsilon = floats::float_of(asked[7]);
     let told = station::spoonferret_short_test(from, to, numbers[0], numbers[1], tol, epsilon);
-    let mut text = io::buffer();
+    let mut text = [0u8; 4096];
     let n = answertext::lengths(
         &mut text,
         0,
@@ -55,36 +58,38 @@ pub fn short_test(numbers: &[i32; 8], asked: &[u64; 12]) {
         told.squared_length,
         told.limit,
     );
-    print(&text, n);
+    print(rt, &text, n)
 }
 
-fn say_row(entry: &[u8], number: u32, row: usize) {
-    let mut text = io::buffer();
+fn say_row(rt: &impl Print, entry: &[u8], number: u32, row: usize) -> io::Result<()> {
+    let mut text = [0u8; 4096];
     let n = answertext::row(&mut text, 0, entry, number, row);
-    print(&text, n);
+    print(rt, &text, n)
 }
 
 pub fn check_net(
+    rt: &impl Print,
     used: Used,
     halfedges: &[i32],
     positions: &[u64],
     normals: &[u64],
     references: &[i32],
     properties: &[u64],
-) {
+) -> io::Result<()> {
     let told = station::spoonferret_check_net(
         used, halfedges, positions, normals, references, properties,
     );
-    say_row(b"check_net", told.number, told.row);
+    say_row(rt, b"check_net", told.number, told.row)
 }
 
-fn say_answer(entry: &[u8], number: u32) {
-    let mut text = io::buffer();
+fn say_answer(rt: &impl Print, entry: &[u8], number: u32) -> io::Result<()> {
+    let mut text = [0u8; 4096];
     let n = answertext::answer(&mut text, 0, entry, number);
-    print(&text, n);
+    print(rt, &text, n)
 }
 
 pub fn pair_up(
+    rt: &impl Print,
     used: Used,
     halfedges: &mut [i32],
     positions: &[u64],
@@ -92,14 +97,15 @@ pub fn pair_up(
     references: &[i32],
     properties: &[u64],
     numbers: &[i32; 8],
-) {
+) -> io::Result<()> {
     let told = station::spoonferret_pair_up(
         used, halfedges, positions, normals, references, properties, numbers[0], numbers[1],
     );
-    say_answer(b"pair_up", told.number);
+    say_answer(rt, b"pair_up", told.number)
 }
 
 pub fn update_vert(
+    rt: &impl Print,
     used: Used,
     halfedges: &mut [i32],
     positions: &[u64],
@@ -107,15 +113,16 @@ pub fn update_vert(
     references: &[i32],
     properties: &[u64],
     numbers: &[i32; 8],
-) {
+) -> io::Result<()> {
     let told = station::spoonferret_update_vert(
         used, halfedges, positions, normals, references, properties, numbers[0], numbers[1],
         numbers[2],
     );
-    say_row(b"update_vert", told.number, told.row);
+    say_row(rt, b"update_vert", told.number, told.row)
 }
 
 pub fn collapse_tri(
+    rt: &impl Print,
     used: Used,
     halfedges: &mut [i32],
     positions: &[u64],
@@ -123,14 +130,15 @@ pub fn collapse_tri(
     references: &[i32],
     properties: &[u64],
     numbers: &[i32; 8],
-) {
+) -> io::Result<()> {
     let told = station::spoonferret_collapse_tri(
         used, halfedges, positions, normals, references, properties, numbers[0],
     );
-    say_row(b"collapse_tri", told.number, told.row);
+    say_row(rt, b"collapse_tri", told.number, told.row)
 }
 
 pub fn remove_if_folded(
+    rt: &impl Print,
     used: Used,
     halfedges: &mut [i32],
     positions: &mut [u64],
@@ -138,15 +146,15 @@ pub fn remove_if_folded(
     references: &[i32],
     properties: &[u64],
     numbers: &[i32; 8],
-) {
+) -> io::Result<()> {
     let told = station::spoonferret_remove_if_folded(
         used, halfedges, positions, normals, references, properties, numbers[0],
     );
-    say_row(b"remove_if_folded", told.number, told.row);
+    say_row(rt, b"remove_if_folded", told.number, told.row)
 }
 
-fn say_split(told: SplitAnswer) {
-    let mut text = io::buffer();
+fn say_split(rt: &impl Print, told: SplitAnswer) -> io::Result<()> {
+    let mut text = [0u8; 4096];
     let n = answertext::split(
         &mut text,
         0,
@@ -156,16 +164,17 @@ fn say_split(told: SplitAnswer) {
         told.added,
         told.steps,
     );
-    print(&text, n);
+    print(rt, &text, n)
 }
 
-fn show_visits(work: &[u32], visit: &[u32]) {
-    let mut text = io::large_buffer();
+fn show_visits(rt: &impl Print, work: &[u32], visit: &[u32]) -> io::Result<()> {
+    let mut text = [0u8; 65536];
     let n = answertext::visits(&mut text, 0, work, visit);
-    print(&text, n);
+    print(rt, &text, n)
 }
 
 pub fn split_pinched_verts(
+    rt: &impl Print,
     used: Used,
     halfedges: &mut [i32],
     positions: &mut [u64],
@@ -174,27 +183,28 @@ pub fn split_pinched_verts(
     properties: &[u64],
     work: &mut [u32],
     visit: &mut [u32],
-) {
+) -> io::Result<()> {
     let told = station::spoonferret_split_pinched_verts(
         used, halfedges, positions, normals, references, properties, work, visit,
     );
-    say_split(told);
-    show_visits(work, visit);
+    say_split(rt, told)?;
+    show_visits(rt, work, visit)
 }
 
-fn say_owners(told: OwnersAnswer) {
-    let mut text = io::buffer();
+fn say_owners(rt: &impl Print, told: OwnersAnswer) -> io::Result<()> {
+    let mut text = [0u8; 4096];
     let n = answertext::owners(&mut text, 0, b"orbit_owners", told.number, told.count);
-    print(&text, n);
+    print(rt, &text, n)
 }
 
-fn show_marks(work: &[u8], list: &[u32]) {
-    let mut text = io::large_buffer();
+fn show_marks(rt: &impl Print, work: &[u8], list: &[u32]) -> io::Result<()> {
+    let mut text = [0u8; 65536];
     let n = answertext::marks(&mut text, 0, work, list);
-    print(&text, n);
+    print(rt, &text, n)
 }
 
 pub fn orbit_owners(
+    rt: &impl Print,
     used: Used,
     halfedges: &[i32],
     positions: &[u64],
@@ -204,16 +214,16 @@ pub fn orbit_owners(
     work: &mut [u8],
     list: &mut [u32],
     end_too: bool,
-) {
+) -> io::Result<()> {
     let told = station::spoonferret_orbit_owners(
         used, halfedges, positions, normals, references, properties, work, list, end_too,
     );
-    say_owners(told);
-    show_marks(work, list);
+    say_owners(rt, told)?;
+    show_marks(rt, work, list)
 }
 
-fn say_loop(told: LoopAnswer) {
-    let mut text = io::buffer();
+fn say_loop(rt: &impl Print, told: LoopAnswer) -> io::Result<()> {
+    let mut text = [0u8; 4096];
     let n = answertext::vertices(
         &mut text,
         0,
@@ -222,17 +232,22 @@ fn say_loop(told: LoopAnswer) {
         told.row,
         told.vertices,
     );
-    print(&text, n);
+    print(rt, &text, n)
 }
 
 // The spares as a call leaves them.
-pub fn show_spares(spare_halfedges: &[i32], spare_positions: &[u64]) {
-    let mut text = io::large_buffer();
+pub fn show_spares(
+    rt: &impl Print,
+    spare_halfedges: &[i32],
+    spare_positions: &[u64],
+) -> io::Result<()> {
+    let mut text = [0u8; 65536];
     let n = answertext::spares(&mut text, 0, spare_halfedges, spare_positions);
-    print(&text, n);
+    print(rt, &text, n)
 }
 
 pub fn form_loop(
+    rt: &impl Print,
     used: Used,
     halfedges: &mut [i32],
     positions: &mut [u64],
@@ -242,7 +257,7 @@ pub fn form_loop(
     spare_halfedges: &mut [i32],
     spare_positions: &mut [u64],
     numbers: &[i32; 8],
-) {
+) -> io::Result<()> {
     let told = station::spoonferret_form_loop(
         used,
         halfedges,
@@ -255,6 +270,6 @@ pub fn form_loop(
         numbers[0],
         numbers[1],
     );
-    say_loop(told);
-    show_spares(spare_halfedges, spare_positions);
+    say_loop(rt, told)?;
+    show_spares(rt, spare_halfedges, spare_positions)
 }

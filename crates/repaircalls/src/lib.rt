@@ -1,48 +1,61 @@
 // The exported functions that repair a net, called on stored calls: each reads the buffers that it is lent, prints what it says and the
 // buffers as they are left, and says the place behind them.
+#![tactic(auto)]
+
 use calltext::{scan, show};
 use entrycalls::{print, show_spares};
 use repairtold::{CleanupTopologyAnswer, CollapseEdgeAnswer, DedupeEdgeAnswer, DedupeEdgesAnswer};
+use std::io;
 use told::Used;
 
-fn say_grown(entry: &[u8], number: u32, row: usize, halfedges: usize, vertices: usize) {
-    let mut text = io::buffer();
+fn say_grown(
+    rt: &impl Print,
+    entry: &[u8],
+    number: u32,
+    row: usize,
+    halfedges: usize,
+    vertices: usize,
+) -> io::Result<()> {
+    let mut text = [0u8; 4096];
     let n = answertext::grown(&mut text, 0, entry, number, row, halfedges, vertices);
-    print(&text, n);
+    print(rt, &text, n)
 }
 
-fn say_edge(told: DedupeEdgeAnswer) {
+fn say_edge(rt: &impl Print, told: DedupeEdgeAnswer) -> io::Result<()> {
     say_grown(
+        rt,
         b"dedupe_edge",
         told.number,
         told.row,
         told.halfedges,
         told.vertices,
-    );
+    )
 }
 
-fn say_edges(told: DedupeEdgesAnswer) {
+fn say_edges(rt: &impl Print, told: DedupeEdgesAnswer) -> io::Result<()> {
     say_grown(
+        rt,
         b"dedupe_edges",
         told.number,
         told.row,
         told.halfedges,
         told.vertices,
-    );
+    )
 }
 
-fn say_cleanup(told: CleanupTopologyAnswer) {
+fn say_cleanup(rt: &impl Print, told: CleanupTopologyAnswer) -> io::Result<()> {
     say_grown(
+        rt,
         b"cleanup_topology",
         told.number,
         told.row,
         told.halfedges,
         told.vertices,
-    );
+    )
 }
 
-fn say_collapse(told: CollapseEdgeAnswer) {
-    let mut text = io::buffer();
+fn say_collapse(rt: &impl Print, told: CollapseEdgeAnswer) -> io::Result<()> {
+    let mut text = [0u8; 4096];
     let n = answertext::collapsed(
         &mut text,
         0,
@@ -53,22 +66,23 @@ fn say_collapse(told: CollapseEdgeAnswer) {
         told.squared_length,
         told.limit,
     );
-    print(&text, n);
+    print(rt, &text, n)
 }
 
-fn show_buffers(work: &[u32], list: &[u32]) {
-    let mut text = io::large_buffer();
+fn show_buffers(rt: &impl Print, work: &[u32], list: &[u32]) -> io::Result<()> {
+    let mut text = [0u8; 65536];
     let n = answertext::buffers(&mut text, 0, work, list);
-    print(&text, n);
+    print(rt, &text, n)
 }
 
-fn show_list(list: &[u32]) {
-    let mut text = io::large_buffer();
+fn show_list(rt: &impl Print, list: &[u32]) -> io::Result<()> {
+    let mut text = [0u8; 65536];
     let n = show::words(&mut text, 0, b"list", list);
-    print(&text, n);
+    print(rt, &text, n)
 }
 
 fn call_dedupe_edge(
+    rt: &impl Print,
     used: Used,
     halfedges: &mut [i32],
     positions: &mut [u64],
@@ -78,7 +92,7 @@ fn call_dedupe_edge(
     spare_halfedges: &mut [i32],
     spare_positions: &mut [u64],
     numbers: &[i32; 8],
-) {
+) -> io::Result<()> {
     let told = station::spoonferret_dedupe_edge(
         used,
         halfedges,
@@ -90,11 +104,12 @@ fn call_dedupe_edge(
         spare_positions,
         numbers[0],
     );
-    say_edge(told);
-    show_spares(spare_halfedges, spare_positions);
+    say_edge(rt, told)?;
+    show_spares(rt, spare_halfedges, spare_positions)
 }
 
 pub fn dedupe_edge(
+    rt: &impl Print,
     file: &[u8],
     at: usize,
     used: Used,
@@ -104,7 +119,7 @@ pub fn dedupe_edge(
     references: &mut [i32],
     properties: &[u64],
     numbers: &[i32; 8],
-) -> usize {
+) -> io::Result<usize> {
     let mut spare_halfedges = [0i32; 512];
     let mut spare_positions = [0u64; 256];
     let s = scan::signed_list(file, at, &mut spare_halfedges);
@@ -112,6 +127,7 @@ pub fn dedupe_edge(
     let s_end = s.length;
     let p_end = p.length;
     call_dedupe_edge(
+        rt,
         used,
         halfedges,
         positions,
@@ -121,11 +137,12 @@ pub fn dedupe_edge(
         &mut spare_halfedges[..s_end],
         &mut spare_positions[..p_end],
         numbers,
-    );
-    p.next
+    )?;
+    Ok(p.next)
 }
 
 fn call_dedupe_edges(
+    rt: &impl Print,
     used: Used,
     halfedges: &mut [i32],
     positions: &mut [u64],
@@ -136,7 +153,7 @@ fn call_dedupe_edges(
     spare_positions: &mut [u64],
     work: &mut [u32],
     list: &mut [u32],
-) {
+) -> io::Result<()> {
     let told = station::spoonferret_dedupe_edges(
         used,
         halfedges,
@@ -149,12 +166,13 @@ fn call_dedupe_edges(
         work,
         list,
     );
-    say_edges(told);
-    show_spares(spare_halfedges, spare_positions);
-    show_buffers(work, list);
+    say_edges(rt, told)?;
+    show_spares(rt, spare_halfedges, spare_positions)?;
+    show_buffers(rt, work, list)
 }
 
 pub fn dedupe_edges(
+    rt: &impl Print,
     file: &[u8],
     at: usize,
     used: Used,
@@ -163,7 +181,7 @@ pub fn dedupe_edges(
     normals: &mut [u64],
     references: &mut [i32],
     properties: &[u64],
-) -> usize {
+) -> io::Result<usize> {
     let mut spare_halfedges = [0i32; 512];
     let mut spare_positions = [0u64; 256];
     let mut work = [0u32; 512];
@@ -177,6 +195,7 @@ pub fn dedupe_edges(
     let w_end = w.length;
     let l_end = l.length;
     call_dedupe_edges(
+        rt,
         used,
         halfedges,
         positions,
@@ -187,11 +206,12 @@ pub fn dedupe_edges(
         &mut spare_positions[..p_end],
         &mut work[..w_end],
         &mut list[..l_end],
-    );
-    l.next
+    )?;
+    Ok(l.next)
 }
 
 fn call_cleanup_topology(
+    rt: &impl Print,
     used: Used,
     halfedges: &mut [i32],
     positions: &mut [u64],
@@ -202,7 +222,7 @@ fn call_cleanup_topology(
     spare_positions: &mut [u64],
     work: &mut [u32],
     list: &mut [u32],
-) {
+) -> io::Result<()> {
     let told = station::spoonferret_cleanup_topology(
         used,
         halfedges,
@@ -215,12 +235,13 @@ fn call_cleanup_topology(
         work,
         list,
     );
-    say_cleanup(told);
-    show_spares(spare_halfedges, spare_positions);
-    show_buffers(work, list);
+    say_cleanup(rt, told)?;
+    show_spares(rt, spare_halfedges, spare_positions)?;
+    show_buffers(rt, work, list)
 }
 
 pub fn cleanup_topology(
+    rt: &impl Print,
     file: &[u8],
     at: usize,
     used: Used,
@@ -229,7 +250,7 @@ pub fn cleanup_topology(
     normals: &mut [u64],
     references: &mut [i32],
     properties: &[u64],
-) -> usize {
+) -> io::Result<usize> {
     let mut spare_halfedges = [0i32; 512];
     let mut spare_positions = [0u64; 256];
     let mut work = [0u32; 512];
@@ -243,6 +264,7 @@ pub fn cleanup_topology(
     let w_end = w.length;
     let l_end = l.length;
     call_cleanup_topology(
+        rt,
         used,
         halfedges,
         positions,
@@ -253,11 +275,12 @@ pub fn cleanup_topology(
         &mut spare_positions[..p_end],
         &mut work[..w_end],
         &mut list[..l_end],
-    );
-    l.next
+    )?;
+    Ok(l.next)
 }
 
 fn call_collapse_edge(
+    rt: &impl Print,
     used: Used,
     halfedges: &mut [i32],
     positions: &mut [u64],
@@ -269,7 +292,7 @@ fn call_collapse_edge(
     list: &mut [u32],
     numbers: &[i32; 8],
     asked: &[u64; 12],
-) {
+) -> io::Result<()> {
     let told = station::spoonferret_collapse_edge(
         used,
         halfedges,
@@ -285,12 +308,13 @@ fn call_collapse_edge(
         floats::float_of(asked[0]),
         floats::float_of(asked[1]),
     );
-    say_collapse(told);
-    show_spares(spare_halfedges, spare_positions);
-    show_list(list);
+    say_collapse(rt, told)?;
+    show_spares(rt, spare_halfedges, spare_positions)?;
+    show_list(rt, list)
 }
 
 pub fn collapse_edge(
+    rt: &impl Print,
     file: &[u8],
     at: usize,
     used: Used,
@@ -301,7 +325,7 @@ pub fn collapse_edge(
     properties: &[u64],
     numbers: &[i32; 8],
     asked: &[u64; 12],
-) -> usize {
+) -> io::Result<usize> {
     let mut spare_halfedges = [0i32; 512];
     let mut spare_positions = [0u64; 256];
     let mut list = [0u32; 512];
@@ -312,6 +336,7 @@ pub fn collapse_edge(
     let p_end = p.length;
     let l_end = l.length;
     call_collapse_edge(
+        rt,
         used,
         halfedges,
         positions,
@@ -323,6 +348,6 @@ pub fn collapse_edge(
         &mut list[..l_end],
         numbers,
         asked,
-    );
-    l.next
+    )?;
+    Ok(l.next)
 }

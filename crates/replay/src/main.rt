@@ -5,7 +5,11 @@
 // A file is text. Only its numbers are read, words and signs beside them are for people. A call is the entry's number, then
 // lists, each as its length and its numbers: counts, half-edges, positions, normals, references, properties, numbers asked, floats
 // asked; then the choice; then a list for each buffer that the entry takes.
+#![tactic(auto)]
+
 use calltext::scan;
+use std::rt::Files;
+use std::{env, fs, io};
 use told::Used;
 
 fn used_of(counts: &[u64; 6]) -> Used {
@@ -21,6 +25,7 @@ fn used_of(counts: &[u64; 6]) -> Used {
 
 // The entries that take buffers: each reads its own, and says the place behind them.
 fn read_split(
+    rt: &impl Print,
     file: &[u8],
     at: usize,
     used: Used,
@@ -29,7 +34,7 @@ fn read_split(
     normals: &[u64],
     references: &[i32],
     properties: &[u64],
-) -> usize {
+) -> io::Result<usize> {
     let mut work = [0u32; 512];
     let mut visit = [0u32; 512];
     let w = scan::words(file, at, &mut work);
@@ -37,6 +42,7 @@ fn read_split(
     let w_end = w.length;
     let v_end = v.length;
     entrycalls::split_pinched_verts(
+        rt,
         used,
         halfedges,
         positions,
@@ -45,11 +51,12 @@ fn read_split(
         properties,
         &mut work[..w_end],
         &mut visit[..v_end],
-    );
-    v.next
+    )?;
+    Ok(v.next)
 }
 
 fn read_owners(
+    rt: &impl Print,
     file: &[u8],
     at: usize,
     used: Used,
@@ -59,7 +66,7 @@ fn read_owners(
     references: &[i32],
     properties: &[u64],
     end_too: bool,
-) -> usize {
+) -> io::Result<usize> {
     let mut work = [0u8; 512];
     let mut list = [0u32; 512];
     let w = scan::bytes(file, at, &mut work);
@@ -67,6 +74,7 @@ fn read_owners(
     let w_end = w.length;
     let l_end = l.length;
     entrycalls::orbit_owners(
+        rt,
         used,
         halfedges,
         positions,
@@ -76,11 +84,12 @@ fn read_owners(
         &mut work[..w_end],
         &mut list[..l_end],
         end_too,
-    );
-    l.next
+    )?;
+    Ok(l.next)
 }
 
 fn read_loop(
+    rt: &impl Print,
     file: &[u8],
     at: usize,
     used: Used,
@@ -90,7 +99,7 @@ fn read_loop(
     references: &[i32],
     properties: &[u64],
     numbers: &[i32; 8],
-) -> usize {
+) -> io::Result<usize> {
     let mut spare_halfedges = [0i32; 1024];
     let mut spare_positions = [0u64; 512];
     let s = scan::signed_list(file, at, &mut spare_halfedges);
@@ -98,6 +107,7 @@ fn read_loop(
     let s_end = s.length;
     let p_end = p.length;
     entrycalls::form_loop(
+        rt,
         used,
         halfedges,
         positions,
@@ -107,12 +117,13 @@ fn read_loop(
         &mut spare_halfedges[..s_end],
         &mut spare_positions[..p_end],
         numbers,
-    );
-    p.next
+    )?;
+    Ok(p.next)
 }
 
 // The entries that take no buffer, by number.
 fn run(
+    rt: &impl Print,
     entry: u64,
     used: Used,
     halfedges: &mut [i32],
@@ -122,51 +133,47 @@ fn run(
     properties: &[u64],
     numbers: &[i32; 8],
     asked: &[u64; 12],
-) {
+) -> io::Result<()> {
     if entry == 0 {
-        entrycalls::next_halfedge(numbers);
-        return;
+        return entrycalls::next_halfedge(rt, numbers);
     }
     if entry == 1 {
-        entrycalls::tri_of(numbers);
-        return;
+        return entrycalls::tri_of(rt, numbers);
     }
     if entry == 2 {
-        entrycalls::short_test(numbers, asked);
-        return;
+        return entrycalls::short_test(rt, numbers, asked);
     }
     if entry == 3 {
-        entrycalls::check_net(used, halfedges, positions, normals, references, properties);
-        return;
+        return entrycalls::check_net(
+            rt, used, halfedges, positions, normals, references, properties,
+        );
     }
     if entry == 4 {
-        entrycalls::pair_up(
-            used, halfedges, positions, normals, references, properties, numbers,
+        return entrycalls::pair_up(
+            rt, used, halfedges, positions, normals, references, properties, numbers,
         );
-        return;
     }
     if entry == 7 {
-        entrycalls::update_vert(
-            used, halfedges, positions, normals, references, properties, numbers,
+        return entrycalls::update_vert(
+            rt, used, halfedges, positions, normals, references, properties, numbers,
         );
-        return;
     }
     if entry == 8 {
-        entrycalls::collapse_tri(
-            used, halfedges, positions, normals, references, properties, numbers,
+        return entrycalls::collapse_tri(
+            rt, used, halfedges, positions, normals, references, properties, numbers,
         );
-        return;
     }
     if entry == 9 {
-        entrycalls::remove_if_folded(
-            used, halfedges, positions, normals, references, properties, numbers,
+        return entrycalls::remove_if_folded(
+            rt, used, halfedges, positions, normals, references, properties, numbers,
         );
-        return;
     }
+    Ok(())
 }
 
 // The entries that repair a net, by number; the place behind their buffers.
 fn repair(
+    rt: &impl Print,
     entry: u64,
     file: &[u8],
     at: usize,
@@ -178,29 +185,30 @@ fn repair(
     properties: &[u64],
     numbers: &[i32; 8],
     asked: &[u64; 12],
-) -> usize {
+) -> io::Result<usize> {
     if entry == 11 {
         return repaircalls::dedupe_edge(
-            file, at, used, halfedges, positions, normals, references, properties, numbers,
+            rt, file, at, used, halfedges, positions, normals, references, properties, numbers,
         );
     }
     if entry == 12 {
         return repaircalls::dedupe_edges(
-            file, at, used, halfedges, positions, normals, references, properties,
+            rt, file, at, used, halfedges, positions, normals, references, properties,
         );
     }
     if entry == 13 {
         return repaircalls::cleanup_topology(
-            file, at, used, halfedges, positions, normals, references, properties,
+            rt, file, at, used, halfedges, positions, normals, references, properties,
         );
     }
     repaircalls::collapse_edge(
-        file, at, used, halfedges, positions, normals, references, properties, numbers, asked,
+        rt, file, at, used, halfedges, positions, normals, references, properties, numbers, asked,
     )
 }
 
 // The entry of that number; the place behind its buffers.
 fn run_all(
+    rt: &impl Print,
     entry: u64,
     file: &[u8],
     at: usize,
@@ -213,51 +221,53 @@ fn run_all(
     numbers: &[i32; 8],
     asked: &[u64; 12],
     choice: bool,
-) -> usize {
+) -> io::Result<usize> {
     if entry == 5 {
         return read_split(
-            file, at, used, halfedges, positions, normals, references, properties,
+            rt, file, at, used, halfedges, positions, normals, references, properties,
         );
     }
     if entry == 6 {
         return read_owners(
-            file, at, used, halfedges, positions, normals, references, properties, choice,
+            rt, file, at, used, halfedges, positions, normals, references, properties, choice,
         );
     }
     if entry == 10 {
         return read_loop(
-            file, at, used, halfedges, positions, normals, references, properties, numbers,
+            rt, file, at, used, halfedges, positions, normals, references, properties, numbers,
         );
     }
     if 10 < entry {
         return repair(
-            entry, file, at, used, halfedges, positions, normals, references, properties, numbers,
-            asked,
+            rt, entry, file, at, used, halfedges, positions, normals, references, properties,
+            numbers, asked,
         );
     }
     run(
-        entry, used, halfedges, positions, normals, references, properties, numbers, asked,
-    );
-    at
+        rt, entry, used, halfedges, positions, normals, references, properties, numbers, asked,
+    )?;
+    Ok(at)
 }
 
 // The five arrays as a call leaves them.
 fn leaves(
+    rt: &impl Print,
     halfedges: &[i32],
     positions: &[u64],
     normals: &[u64],
     references: &[i32],
     properties: &[u64],
-) {
-    let mut text = io::large_buffer();
+) -> io::Result<()> {
+    let mut text = [0u8; 65536];
     let n = answertext::arrays(
         &mut text, 0, halfedges, positions, normals, references, properties,
     );
-    entrycalls::print(&text, n);
+    entrycalls::print(rt, &text, n)
 }
 
 // The entry of that number, then the arrays where it works on a net; the place behind its buffers.
 fn run_and_leave(
+    rt: &impl Print,
     entry: u64,
     file: &[u8],
     at: usize,
@@ -270,19 +280,20 @@ fn run_and_leave(
     numbers: &[i32; 8],
     asked: &[u64; 12],
     choice: bool,
-) -> usize {
+) -> io::Result<usize> {
     let next = run_all(
-        entry, file, at, used, halfedges, positions, normals, references, properties, numbers,
+        rt, entry, file, at, used, halfedges, positions, normals, references, properties, numbers,
         asked, choice,
-    );
+    )?;
     if 2 < entry {
-        leaves(halfedges, positions, normals, references, properties);
+        leaves(rt, halfedges, positions, normals, references, properties)?;
     }
-    next
+    Ok(next)
 }
 
 // The rest of a call, once its net is read: what is asked, and the choice.
 fn ask(
+    rt: &impl Print,
     entry: u64,
     file: &[u8],
     at: usize,
@@ -292,13 +303,14 @@ fn ask(
     normals: &mut [u64],
     references: &mut [i32],
     properties: &[u64],
-) -> usize {
+) -> io::Result<usize> {
     let mut numbers = [0i32; 8];
     let mut asked = [0u64; 12];
     let a = scan::signed_list(file, at, &mut numbers);
     let f = scan::list(file, a.next, &mut asked);
     let choice = scan::number(file, f.next);
     run_and_leave(
+        rt,
         entry,
         file,
         choice.next,
@@ -316,13 +328,14 @@ fn ask(
 
 // The rest of a call, once its half-edges and positions are read: the faces' arrays and the properties.
 fn read_faces(
+    rt: &impl Print,
     entry: u64,
     file: &[u8],
     at: usize,
     used: Used,
     halfedges: &mut [i32],
     positions: &mut [u64],
-) -> usize {
+) -> io::Result<usize> {
     let mut normals = [0u64; 512];
     let mut references = [0i32; 512];
     let mut properties = [0u64; 512];
@@ -333,6 +346,7 @@ fn read_faces(
     let r_end = r.length;
     let q_end = q.length;
     ask(
+        rt,
         entry,
         file,
         q.next,
@@ -346,7 +360,7 @@ fn read_faces(
 }
 
 // One call; the place behind it.
-fn call(file: &[u8], at: usize) -> usize {
+fn call(rt: &impl Print, file: &[u8], at: usize) -> io::Result<usize> {
     let entry = scan::number(file, at);
     let mut counts = [0u64; 6];
     let mut halfedges = [0i32; 1024];
@@ -358,6 +372,7 @@ fn call(file: &[u8], at: usize) -> usize {
     let p_end = p.length;
     let used = used_of(&counts);
     read_faces(
+        rt,
         entry.magnitude,
         file,
         p.next,
@@ -368,42 +383,33 @@ fn call(file: &[u8], at: usize) -> usize {
 }
 
 // Every call of a file.
-fn calls(file: &[u8]) {
+fn calls(rt: &impl Print, file: &[u8]) -> io::Result<()> {
     let mut at = scan::first(file, 0);
     while at < file.len() {
-        let next = scan::first(file, call(file, at));
+        let next = scan::first(file, call(rt, file, at)?);
         if next <= at {
-            return;
+            return Ok(());
         }
         at = next;
     }
+    Ok(())
 }
 
-fn replayed(path: &[u8]) {
-    let fd = os::open_read(path);
-    if fd < 0 {
-        os::fail(path);
-        return;
+fn replayed(rt: &(impl Files + Print + Eprint), path: &str) -> io::Result<()> {
+    let mut buf = [0u8; 65536];
+    match fs::open(rt, path) {
+        Ok(mut file) => {
+            let n = readfull::read_full(&mut file, &mut buf)?;
+            drop(file);
+            calls(rt, &buf[..n])
+        }
+        Err(error) => eprintln!(rt; "{path}: {error}"),
     }
-    let mut buf = io::large_buffer();
-    let n = io::read_full(fd, &mut buf);
-    libc::close(fd);
-    calls(&buf[..n]);
 }
 
-fn named(i: usize) {
-    let mut path = io::buffer();
-    let n = os::arg(i, &mut path);
-    if os::errno() != 0 {
-        os::fail(b"argument");
-        return;
+fn main(rt: HostRuntime) -> io::Result<()> {
+    for path in env::args(&rt)?.skip(1) {
+        replayed(&rt, path.as_str())?;
     }
-    replayed(&path[..n]);
-}
-
-fn main() {
-    let count = os::arg_count();
-    for i in 1..count {
-        named(i);
-    }
+    Ok(())
 }
