@@ -1,4 +1,6 @@
 // Each kind of answer, and the arrays and buffers that a call leaves, put into a lent buffer as text, behind the bytes in use.
+#![tactic(auto)]
+
 ghost use Rattle.std.specs.Prelude.{◌≡◌};
 ghost use Rattle.texts.specs.Put.{puts};
 ghost use Rattle.answertext.specs.Said.{answer_said, row_said, lengths_said, next_said, corners_said, split_said, owners_said, vertices_said, grown_said, collapsed_said, spares_said, buffers_said, visits_said, marks_said, arrays_said};

@@ -1,9 +1,7 @@
 -- Numbers read from texts, worked out by hand, proved by computing.
-use Rattle.std.proofs.Common.{◌≡◌, ℕ, Bool, true, false, List, [], ◌∷◌, map, ℤ, pos, negsuc, refl}
+use Rattle.std.proofs.Common.{◌≡◌, ℕ, Bool, true, false, List, [], ◌∷◌, map, pos, negsuc, refl}
 use Prim.Native.String.{String}
 use Rattle.digits.proofs.Quoted.{bytes_from, quoted}
-use Rattle.calltext.specs.declared.scan.Scanned.{Scanned}
-use Rattle.calltext.specs.declared.scan.Listed.{Listed}
 use Rattle.calltext.specs.Scan.{gap, first_from, value, span, digits_at, number_here, number_from, signed_of, count_of, word_of, byte_of, fill, list_filled, list_from}
 
 -- the place of the next number: at the place itself, behind words, at a sign, and the end where there is none

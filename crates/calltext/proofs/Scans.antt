@@ -1,8 +1,7 @@
 -- One turn of each loop that reads: a byte that is passed, a digit more, a number more.
-use Rattle.std.proofs.Common.{◌≡◌, ℕ, zero, suc, ◌+◌, ◌-◌, ◌<◌, ◌≤◌, Bool, true, false, eqb, List, [], ◌∷◌, length, get_or, drop, set, sym, refl, ap, ◌∙◌, add-one, arith, drop_of_length-le, drop-cons, eqb-true}
+use Rattle.std.proofs.Common.{◌≡◌, ℕ, suc, ◌+◌, ◌-◌, ◌<◌, ◌≤◌, Bool, true, false, eqb, List, length, get_or, drop, set, sym, ap, ◌∙◌, add-one, arith, drop_of_length-le, drop-cons}
 use lib.ListN.{get_or-eq_default}
 use Rattle.calltext.specs.declared.scan.Scanned.{Scanned}
-use Rattle.calltext.specs.declared.scan.Listed.{Listed}
 use Rattle.calltext.specs.Scan.{is_digit, begins, gap, first_from, with_digit, value, span, digits_at, number_here, number_from, room, fill, list_filled, list_from}
 
 module _ (file : List ℕ) (i : ℕ) where

@@ -1,5 +1,5 @@
 -- A number with its sign as pieces; and one turn of each loop that puts a list.
-use Rattle.std.proofs.Common.{◌≡◌, ℕ, zero, suc, ◌+◌, ◌<◌, ◌≤◌, true, false, List, [], ◌∷◌, ◌++◌, length, get_or, drop, ℤ, pos, negsuc, ◌-ℤ◌, nat_abs, sym, refl, ap, ◌∙◌, true≢false, not-suc-le-zero, zero-add, add-one, drop_of_length-le, drop-cons, ltb-true}
+use Rattle.std.proofs.Common.{◌≡◌, ℕ, suc, ◌+◌, ◌<◌, ◌≤◌, true, false, List, [], ◌∷◌, length, get_or, drop, ℤ, pos, negsuc, ◌-ℤ◌, nat_abs, sym, ap, ◌∙◌, true≢false, not-suc-le-zero, zero-add, add-one, drop_of_length-le, drop-cons, ltb-true}
 use lib.Signed.{lt_z}
 use Rattle.digits.specs.Written.{minus, decimal}
 use Rattle.texts.specs.Put.{Filled, put, puts, signed_pieces}

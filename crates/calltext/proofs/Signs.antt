@@ -1,8 +1,7 @@
 -- A number of 32 bits in 64, and what 0 less it is: facts by sign.
-use Rattle.std.proofs.Common.{◌≡◌, ℕ, zero, suc, ◌^◌, ◌<◌, true, false, T, ℤ, pos, negsuc, ◌-ℤ◌, neg_ℤ, nat_abs, sym, ◌∙◌, true≢false, not-suc-le-zero, arith, to_z-of_z, w32, w64, Fits, SFits, to_z, of_z, ltb-true}
+use Rattle.std.proofs.Common.{◌≡◌, ℕ, zero, suc, ◌^◌, ◌<◌, true, false, T, ℤ, pos, negsuc, ◌-ℤ◌, nat_abs, true≢false, not-suc-le-zero, arith, to_z-of_z, w32, w64, Fits, SFits, to_z, ltb-true}
 use lib.IntN.{+ℤ_idl}
-use lib.Signed.{mag, lt_z, non_neg}
-use mir.Val.{hbits}
+use lib.Signed.{lt_z, non_neg}
 
 pub widens : (z : ℤ) → SFits w32 z → SFits w64 z
 widens z f = record { sfits = omega (arith, f.sfits) }

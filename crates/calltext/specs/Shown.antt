@@ -1,5 +1,5 @@
 -- What a call says and leaves, as pieces of text.
-use Rattle.std.specs.Prelude.{ℕ, List, [], ◌∷◌, ◌++◌, ℤ, pos, negsuc}
+use Rattle.std.specs.Prelude.{ℕ, List, [], ◌∷◌, ◌++◌, ℤ}
 use Rattle.digits.specs.Written.{newline, decimal}
 use Rattle.texts.specs.Put.{signed_pieces}
 

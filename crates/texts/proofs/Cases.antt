@@ -3,9 +3,8 @@ use mathlib.Core.Path.{◌≡◌, refl}
 use mathlib.Core.List.{List, [], ◌∷◌}
 use Prim.Native.Nat.{ℕ}
 use lib.IntN.{negsuc}
-use lib.ListN.{replicate}
 use Rattle.digits.specs.Written.{glyph, decimal, decimal_in}
-use Rattle.texts.specs.Put.{Filled, put, puts, signed_pieces}
+use Rattle.texts.specs.Put.{put, puts, signed_pieces}
 
 abbrev eight : List ℕ
 eight = 1 ∷ 2 ∷ 3 ∷ 4 ∷ 5 ∷ 6 ∷ 7 ∷ 8 ∷ []

@@ -4,8 +4,8 @@ use mathlib.Core.List.{List, [], ◌∷◌, ◌++◌, append_assoc}
 use Prim.Native.Nat.{ℕ, ◌+◌, ◌≤◌, ◌<◌}
 use native.Mathlib.Omega.{arith}
 use borrow.Author.Tests.{le-leb, lt-leb}
-use lib.ListN.{length, take, drop, length-append, length-drop}
-use lib.Seq.{length-take-le, take_at, drop_at}
+use lib.ListN.{length, take, drop, length-append}
+use lib.Seq.{length-take-le, take_at}
 use Rattle.laws.specs.Stretches.{put_at}
 use Rattle.laws.proofs.Stretches.{length_put_at, put_behind}
 use Rattle.texts.specs.Appended.{Appended}

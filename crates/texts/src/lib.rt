@@ -1,5 +1,7 @@
 // Text put into a lent buffer behind the bytes in use. Bytes, numbers and lines ask for room for themselves and no more; `put` and
 // `put_decimal` ask for nothing, and leave out what does not fit.
+#![tactic(auto)]
+
 ghost use Rattle.std.specs.Prelude.{◌≡◌, ◌+◌, ◌≤◌, length, pos, ◌-ℤ◌};
 ghost use Rattle.digits.specs.Written.{decimal, signed};
 ghost use Rattle.texts.specs.Appended.{Appended, line};

@@ -1,0 +1,11 @@
+-- `texts::put_number` meets its contract: the digits of io are the number as it is written.
+use mathlib.Core.Path.{◌∙◌}
+use Rattle.texts.proofs.Appends.{appended_as}
+use Rattle.texts.proofs.Numbers.{fewest_digits}
+use Rattle.texts.proofs.put_number.Goals as goal
+
+pub put_bytes-requires : goal.put_bytes-requires
+put_bytes-requires c = rw (c.decimal-k.ensures.digits ∙ fewest_digits _ _ c.decimal-k.ensures.len) c.requires
+
+pub returns : goal.returns
+returns c = appended_as c.put_bytes.ensures (c.decimal-k.ensures.digits ∙ fewest_digits _ _ c.decimal-k.ensures.len)
