@@ -1,5 +1,8 @@
-// The library that a program in Rust or C links: each entry under a name that begins spoonferret_. An answer is a struct that
-// holds document 01's number and the values that come with it; a value that the answer does not carry is 0.
+// The entries of the library: each under a name that begins spoonferret_, as a program in Rust or C calls it through the crate station_c,
+// which exports them. An answer is a struct that holds document 01's number and the values that come with it; a value that the answer does
+// not carry is 0.
+#![tactic(auto)]
+
 ghost use Rattle.std.specs.Prelude.{◌≡◌};
 ghost use Rattle.numbers.specs.Next.{next_answer, tri_answer};
 ghost use Rattle.floats.specs.Short.{short_test};
@@ -28,22 +31,19 @@ use repairtold::{CleanupTopologyAnswer, CollapseEdgeAnswer, DedupeEdgeAnswer, De
 use rowtold::{RowAnswer, UpdateAnswer};
 use told::{Answer, LengthAnswer, NextAnswer, Point, TriAnswer, Used};
 
-#[unsafe(no_mangle)]
-pub extern "C" fn spoonferret_next_halfedge(h: i32) -> NextAnswer
+pub fn spoonferret_next_halfedge(h: i32) -> NextAnswer
     ensures { result ≡ next_told (next_answer h) }
 {
     told::of_next(numbers::next_halfedge(h))
 }
 
-#[unsafe(no_mangle)]
-pub extern "C" fn spoonferret_tri_of(h: i32) -> TriAnswer
+pub fn spoonferret_tri_of(h: i32) -> TriAnswer
     ensures { result ≡ tri_told (tri_answer h) }
 {
     told::of_tri(numbers::tri_of(h))
 }
 
-#[unsafe(no_mangle)]
-pub extern "C" fn spoonferret_short_test(
+pub fn spoonferret_short_test(
     from: Point,
     to: Point,
     end_vert: i32,
@@ -63,8 +63,7 @@ pub extern "C" fn spoonferret_short_test(
     ))
 }
 
-#[unsafe(no_mangle)]
-pub extern "C" fn spoonferret_check_net(
+pub fn spoonferret_check_net(
     used: Used,
     halfedges: &[i32],
     positions: &[u64],
@@ -84,8 +83,7 @@ pub extern "C" fn spoonferret_check_net(
     ))
 }
 
-#[unsafe(no_mangle)]
-pub extern "C" fn spoonferret_explain_row(
+pub fn spoonferret_explain_row(
     used: Used,
     halfedges: &[i32],
     positions: &[u64],
@@ -107,8 +105,7 @@ pub extern "C" fn spoonferret_explain_row(
     ))
 }
 
-#[unsafe(no_mangle)]
-pub extern "C" fn spoonferret_pair_up(
+pub fn spoonferret_pair_up(
     used: Used,
     halfedges: &mut [i32],
     positions: &[u64],
@@ -132,8 +129,7 @@ pub extern "C" fn spoonferret_pair_up(
     ))
 }
 
-#[unsafe(no_mangle)]
-pub extern "C" fn spoonferret_update_vert(
+pub fn spoonferret_update_vert(
     used: Used,
     halfedges: &mut [i32],
     positions: &[u64],
@@ -159,8 +155,7 @@ pub extern "C" fn spoonferret_update_vert(
     ))
 }
 
-#[unsafe(no_mangle)]
-pub extern "C" fn spoonferret_collapse_tri(
+pub fn spoonferret_collapse_tri(
     used: Used,
     halfedges: &mut [i32],
     positions: &[u64],
@@ -182,8 +177,7 @@ pub extern "C" fn spoonferret_collapse_tri(
     ))
 }
 
-#[unsafe(no_mangle)]
-pub extern "C" fn spoonferret_remove_if_folded(
+pub fn spoonferret_remove_if_folded(
     used: Used,
     halfedges: &mut [i32],
     positions: &mut [u64],
@@ -205,8 +199,7 @@ pub extern "C" fn spoonferret_remove_if_folded(
     ))
 }
 
-#[unsafe(no_mangle)]
-pub extern "C" fn spoonferret_form_loop(
+pub fn spoonferret_form_loop(
     used: Used,
     halfedges: &mut [i32],
     positions: &mut [u64],
@@ -235,8 +228,7 @@ pub extern "C" fn spoonferret_form_loop(
     ))
 }
 
-#[unsafe(no_mangle)]
-pub extern "C" fn spoonferret_orbit_owners(
+pub fn spoonferret_orbit_owners(
     used: Used,
     halfedges: &[i32],
     positions: &[u64],
@@ -263,8 +255,7 @@ pub extern "C" fn spoonferret_orbit_owners(
     ))
 }
 
-#[unsafe(no_mangle)]
-pub extern "C" fn spoonferret_split_pinched_verts(
+pub fn spoonferret_split_pinched_verts(
     used: Used,
     halfedges: &mut [i32],
     positions: &mut [u64],
@@ -289,8 +280,7 @@ pub extern "C" fn spoonferret_split_pinched_verts(
     ))
 }
 
-#[unsafe(no_mangle)]
-pub extern "C" fn spoonferret_dedupe_edge(
+pub fn spoonferret_dedupe_edge(
     used: Used,
     halfedges: &mut [i32],
     positions: &mut [u64],
@@ -317,8 +307,7 @@ pub extern "C" fn spoonferret_dedupe_edge(
     ))
 }
 
-#[unsafe(no_mangle)]
-pub extern "C" fn spoonferret_dedupe_edges(
+pub fn spoonferret_dedupe_edges(
     used: Used,
     halfedges: &mut [i32],
     positions: &mut [u64],
@@ -347,8 +336,7 @@ pub extern "C" fn spoonferret_dedupe_edges(
     ))
 }
 
-#[unsafe(no_mangle)]
-pub extern "C" fn spoonferret_cleanup_topology(
+pub fn spoonferret_cleanup_topology(
     used: Used,
     halfedges: &mut [i32],
     positions: &mut [u64],
@@ -377,8 +365,7 @@ pub extern "C" fn spoonferret_cleanup_topology(
     ))
 }
 
-#[unsafe(no_mangle)]
-pub extern "C" fn spoonferret_collapse_edge(
+pub fn spoonferret_collapse_edge(
     used: Used,
     halfedges: &mut [i32],
     positions: &mut [u64],
