@@ -1,6 +1,6 @@
 /* spoonferret.h: mesh surgery on lent arrays, every function proved.
 
-   Link with target/staticlib/libstation.a, which `rt staticlib station` writes (x86-64 Linux). Nothing else is needed: no function
+   Link with target/staticlib/libstation.a, which `scripts/staticlib station` writes (x86-64 Linux). Nothing else is needed: no function
    here allocates, prints, keeps state between calls or fails to return.
 
    THE NET. Five arrays that the caller lends, and the counts of what is in use of each. An array is passed as a pointer and
