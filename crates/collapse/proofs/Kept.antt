@@ -9,7 +9,7 @@ use Rattle.rows.specs.Halfedges.{lent_halfedges}
 use Rattle.rows.specs.Triples.{lent_triples}
 use Rattle.steps.specs.Steps.{Middle, Stopped, begin, ended}
 use Rattle.steps.proofs.Frame.{frame_trans, frame_ended}
-use Rattle.spinning.proofs.Kept.{Fit, Steps}
+use Rattle.spinning.proofs.Kept.{Steps}
 use Rattle.judging.specs.declared.Tolerance.{Tolerance}
 use Rattle.collapsing.specs.Collapse.{HowTried, went, left_dead, left_open, left_long, refusal, collapse_at}
 use Rattle.collapsing.proofs.Kept.{try_steps}

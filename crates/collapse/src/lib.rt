@@ -1,5 +1,7 @@
 // Collapsing a short edge: the entry collapse_edge, which has a spare and a work list. Past the checks the rows in use go to the spare, the
 // steps of collapsing work in place, and a refusal puts everything back.
+#![tactic(auto)]
+
 ghost use Rattle.std.specs.Prelude.{◌≡◌, true, List, ℕ, ◌*◌, ◌<◌, ◌≤◌, ℤ, length, drop};
 ghost use Rattle.numbers.specs.Numbers.{halfedge_number, names};
 ghost use Rattle.rows.specs.Halfedges.{lent_halfedges};

@@ -6,13 +6,12 @@ use mathlib.Core.Logic.{◌⊎◌, inl, inr, ⊎_elim}
 use Prim.Native.Nat.{ℕ, ◌%◌, ◌<◌, ◌≤◌}
 use native.Mathlib.Decide.{ℕ_discrete}
 use native.Mathlib.Omega.{arith}
-use lib.IntN.{ℤ, pos, nat_abs, pos-ne-negsuc}
+use lib.IntN.{ℤ, pos, pos-ne-negsuc}
 use lib.ListN.{length, get_or}
 use Rattle.laws.proofs.Integers.{eq_z_no}
-use Rattle.laws.proofs.Tests.{by_test, not_both}
 use Rattle.numbers.specs.Next.{next}
 use Rattle.numbers.proofs.Names.{names_at}
-use Rattle.numbers.proofs.NextLaws.{next_in, next_round, next_moves, next_next_moves}
+use Rattle.numbers.proofs.NextLaws.{next_round, next_moves, next_next_moves}
 use Rattle.rows.specs.Halfedges.{Column, start, end, pair, prop, offset, column, start_of, end_of, pair_of, prop_of, none, lent_halfedges, rows_from}
 use Rattle.rows.specs.Triples.{lent_triples, triple, put_triple}
 use Rattle.rows.proofs.Threes.{triple_put, triple_other, put_below, length_put}
@@ -28,19 +27,19 @@ use Rattle.triangles.specs.Triangles.{collapsed, collapse, Outside}
 use Rattle.triangles.specs.Triangles as T
 use Rattle.triangles.proofs.Emptied.{collapsed_told}
 use Rattle.walks.specs.Walk.{walk_to, update}
-use Rattle.walks.specs.Way.{move, Reached, OnWay}
+use Rattle.walks.specs.Way.{move, Reached}
 use Rattle.walks.proofs.Kept.{length_walk, walk_below, other_walk, update_goes}
 use Rattle.walks.proofs.Told.{moving, AsTold}
 use Rattle.folds.specs.Folds.{nan, lose, fold}
-use Rattle.foldsound.specs.Removed.{Former, Latter, Outer, Rejoined, Lost, Removed}
-use Rattle.foldsound.proofs.Edge.{f_outside, x_outer, y_outer, outer_next, outer_flip, outside_next}
+use Rattle.foldsound.specs.Removed.{Former, Latter, Outer}
+use Rattle.foldsound.proofs.Edge.{f_outside, outer_next, outside_next}
 use Rattle.foldsound.proofs.Steps.{fold_left}
 use Rattle.loopsound.proofs.Ways.{way_live, way_end, way_not_end, way_not_before}
 use Rattle.rings.specs.Ring.{ring}
 use Rattle.spinning.specs.Spin.{Fixed, Spun, spin}
 use Rattle.collapsing.specs.Collapse.{close, about}
 use Rattle.collapsetold.specs.Plain.{along, meets, Plain}
-use Rattle.collapsetold.specs.Collapsed.{About, AboutEnd, NoLoop, prop_by, PairedTwice, OuterPaired, two_pairs, one_past_former, one_past_latter, no_pair, EdgeCollapsed, CollapsedAway}
+use Rattle.collapsetold.specs.Collapsed.{About, AboutEnd, NoLoop, prop_by, OuterPaired, two_pairs, one_past_former, one_past_latter, no_pair, EdgeCollapsed, CollapsedAway}
 use Rattle.collapsetold.proofs.Plain.{around, spin_plain, begun_told, along_other}
 use Rattle.collapsetold.proofs.Ways.{SamePairs, AsCarried, Spares, Lists, comes, updated, listed, meets_none, carried_along, spin_goes, along_kept}
 

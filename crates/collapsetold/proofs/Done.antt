@@ -1,7 +1,7 @@
 -- What 0 of collapse_edge leaves where no loop is formed, in words, of its entry: on a sound net, at a live edge. And where the edge is not
 -- duplicated in the fan of its start, the net is sound still.
 use mathlib.Core.Path.{◌≡◌, refl, sym, ap, ◌∙◌}
-use mathlib.Core.Bool.{Bool, true, false}
+use mathlib.Core.Bool.{true, false}
 use mathlib.Core.List.{List, [], ◌∷◌}
 use Prim.Native.Nat.{ℕ}
 use native.Mathlib.Omega.{arith}
@@ -35,7 +35,7 @@ use Rattle.judging.specs.declared.Tolerance.{Tolerance}
 use Rattle.judging.specs.Judge.{between}
 use Rattle.collapsing.specs.Collapse.{ran, short_at, about, collapse_at}
 use Rattle.collapse.specs.CollapseEdge.{Left, left, left_by, to_settle, collapse_settled, carries_props, collapse_edge}
-use Rattle.collapsetold.specs.Collapsed.{NoLoop, Once, CollapsedAway, Done}
+use Rattle.collapsetold.specs.Collapsed.{NoLoop, Once, Done}
 use Rattle.collapsetold.proofs.Collapsed.{neighbours, comes_round, way_or_not, all_come, lost_lent, folds, away}
 use Rattle.collapsetold.proofs.InOrder.{fold_runs, away_in_order, away_lengths}
 use Rattle.collapsetold.proofs.Told.{Lends, judge_live, reached}

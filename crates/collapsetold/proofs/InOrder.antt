@@ -9,7 +9,7 @@ use native.Mathlib.Decide.{ℕ_discrete}
 use lib.IntN.{ℤ, pos, nat_abs}
 use lib.ListN.{length}
 use Rattle.numbers.specs.Next.{next}
-use Rattle.numbers.proofs.NextLaws.{next_in, next_round}
+use Rattle.numbers.proofs.NextLaws.{next_round}
 use Rattle.rows.specs.Halfedges.{start_of, end_of, pair_of, lent_halfedges}
 use Rattle.rows.specs.Triples.{lent_triples}
 use Rattle.net.specs.Counts.{most_vertices}
@@ -21,11 +21,11 @@ use Rattle.steps.proofs.Frame.{Frame}
 use Rattle.folds.specs.Folds.{fold}
 use Rattle.folds.proofs.Kept.{frame_fold}
 use Rattle.foldsound.proofs.Steps.{fold_goes, fold_in_order}
-use Rattle.walks.specs.Way.{move, Reached, OnWay}
-use Rattle.foldsound.specs.Removed.{Former, Latter, Outer}
+use Rattle.walks.specs.Way.{move, Reached}
+use Rattle.foldsound.specs.Removed.{Latter, Outer}
 use Rattle.foldsound.proofs.Edge.{Inside, side, outer_next, partner_outer}
 use Rattle.loopsound.proofs.Ways.{way_live, way_first, way_step, way_unstep, way_last}
-use Rattle.collapsetold.specs.Collapsed.{About, PairedTwice, OuterPaired, two_pairs, one_past_former, one_past_latter, no_pair, EdgeCollapsed, CollapsedAway, Once}
+use Rattle.collapsetold.specs.Collapsed.{About, OuterPaired, two_pairs, one_past_former, one_past_latter, no_pair, EdgeCollapsed, CollapsedAway, Once}
 use Rattle.collapsetold.proofs.Collapsed.{fold_empty}
 
 -- a number in a row that names one below N

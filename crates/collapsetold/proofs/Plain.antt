@@ -1,10 +1,8 @@
 -- Where no loop is formed the loop about the start carries props along its walk, and leaves all else as it was.
-use mathlib.Core.Path.{◌≡◌, refl, sym, ◌∙◌}
-use mathlib.Core.Bool.{Bool, true, false, cond, ◌||◌, true≢false}
+use mathlib.Core.Path.{◌≡◌, refl, ◌∙◌}
+use mathlib.Core.Bool.{Bool, true, false, ◌||◌, true≢false}
 use mathlib.Core.List.{List}
 use Prim.Native.Nat.{ℕ, zero, suc, ◌%◌, ◌/◌, ◌<◌, ◌≤◌}
-use native.Mathlib.Omega.{arith}
-use borrow.Author.Tests.{lt-leb}
 use lib.Dec.{eqb}
 use lib.IntN.{ℤ}
 use lib.ListN.{get_or}
@@ -25,7 +23,7 @@ use Rattle.folds.specs.Folds.{nan, lose}
 use Rattle.loops.specs.Loops.{loop_at}
 use Rattle.rings.specs.Ring.{find}
 use Rattle.carrying.specs.Carried.{carried}
-use Rattle.spinning.specs.Spin.{Fixed, Turned, out, on, formed, turn_at, turn_once, Spun, spun, after, tired, inner, spin}
+use Rattle.spinning.specs.Spin.{Fixed, out, on, formed, turn_at, turn_once, Spun, spun, after, tired, inner, spin}
 use Rattle.collapsetold.specs.Plain.{carry, along, meets, Plain}
 
 or_false : (a b : Bool) → a || b ≡ false → (a ≡ false) × (b ≡ false)

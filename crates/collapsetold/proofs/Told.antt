@@ -14,10 +14,9 @@ use lib.IntN.{ℤ, pos}
 use lib.ListN.{length}
 use Rattle.answers.specs.Answers.{Said, Value, whole, float, done, bad_number}
 use Rattle.answers.specs.Answers as A
-use Rattle.answers.proofs.Laws.{first_value, read_back, numbers_differ}
-use Rattle.floats.specs.Short.{short_test, squared_length, limit_of, tolerance_of}
+use Rattle.answers.proofs.Laws.{first_value, read_back}
+use Rattle.floats.specs.Short.{squared_length, limit_of, tolerance_of}
 use Rattle.floats.specs.Vectors.{minus3}
-use Rattle.laws.specs.Stretches.{cleared}
 use Rattle.laws.proofs.Tests.{by_test}
 use Rattle.numbers.specs.Numbers.{Named, at, nothing, names, is_named, named_or}
 use Rattle.numbers.specs.Next.{next}
@@ -26,15 +25,14 @@ use Rattle.rows.specs.Halfedges.{start_of, end_of, pair_of, is_paired, lent_half
 use Rattle.rows.specs.Triples.{lent_triples, triple, zero_triples}
 use Rattle.net.specs.declared.Counts.{Counts}
 use Rattle.net.specs.Net.{Net}
-use Rattle.net.specs.Counts.{is_shaped, is_long, spare_holds, halfedge_capacity, vertex_capacity_over}
+use Rattle.net.specs.Counts.{is_long, spare_holds, halfedge_capacity, vertex_capacity_over}
 use Rattle.net.specs.Sound.{start_vertex, end_vertex, partner, InOrder, Live, Sound}
-use Rattle.net.proofs.Shape.{within, shaped_true}
+use Rattle.net.proofs.Shape.{shaped_true}
 use Rattle.net.proofs.Sound.{live_paired, live_row, partner_live, next_live}
 use Rattle.soundness.specs.Check.{sound_or}
-use Rattle.rowtests.specs.Order.{least_out}
 use Rattle.steps.specs.declared.How.{How}
 use Rattle.steps.specs.declared.How.TheVariants as W
-use Rattle.steps.specs.Steps.{Middle, begin, refused, how_said}
+use Rattle.steps.specs.Steps.{begin, refused, how_said}
 use Rattle.steps.specs.Entries.{past}
 use Rattle.judging.specs.declared.Tolerance.{Tolerance}
 use Rattle.judging.specs.Judge.{Judgement, found_short, found_long, found_dead, found_open, found_missing, vector, between, short_or, judge}

@@ -9,7 +9,7 @@ use native.Mathlib.Decide.{ℕ_discrete}
 use native.Mathlib.Omega.{arith}
 use borrow.Author.Tests.{eqb-true, eqb-false, eq-eqb}
 use lib.Dec.{eqb}
-use lib.IntN.{ℤ, pos}
+use lib.IntN.{ℤ}
 use lib.ListN.{length, get_or}
 use Rattle.laws.proofs.Integers.{eq_z_no}
 use Rattle.laws.proofs.Tests.{by_test}
@@ -17,10 +17,10 @@ use Rattle.numbers.specs.Numbers.{Named, at, nothing, names, named_or}
 use Rattle.numbers.specs.Next.{next}
 use Rattle.numbers.proofs.Names.{names_at, names_below}
 use Rattle.numbers.proofs.NextLaws.{next_in, next_inj}
-use Rattle.rows.specs.Halfedges.{start, end, pair, prop, start_of, end_of, pair_of, prop_of, lent_halfedges, rows_from}
+use Rattle.rows.specs.Halfedges.{end, pair, prop, start_of, end_of, pair_of, prop_of, lent_halfedges, rows_from}
 use Rattle.rows.proofs.Columns.{column_written, other_row}
 use Rattle.rows.specs.Triples.{reference, same_face}
-use Rattle.net.specs.Sound.{partner, InOrder, Live}
+use Rattle.net.specs.Sound.{InOrder, Live}
 use Rattle.net.proofs.Sound.{live_row, next_live}
 use Rattle.turning.specs.Fan.{iter}
 use Rattle.turning.proofs.Orbit.{iter_suc}
@@ -31,7 +31,7 @@ use Rattle.walks.proofs.Kept.{length_moved, other_moved}
 use Rattle.walks.proofs.Told.{moved_end, moved_start, unmoved_end, unmoved_start, move_live, AsTold, way_on, way_back}
 use Rattle.rings.specs.Ring.{Listing, ringed, listed_first, ring, find}
 use Rattle.carrying.specs.Carried.{carried}
-use Rattle.spinning.specs.Spin.{Turned, out, on, formed, Fixed, turn_at, turn_once, Spun, spun, tired, inner, spin}
+use Rattle.spinning.specs.Spin.{out, on, Fixed, turn_at, turn_once, Spun, spun, tired, inner, spin}
 use Rattle.carrying.proofs.Kept.{carried_kept}
 use Rattle.collapsetold.specs.Plain.{carry, along, meets}
 use Rattle.collapsetold.specs.Collapsed.{prop_by}

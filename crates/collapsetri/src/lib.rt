@@ -1,4 +1,6 @@
 // The entry collapse_tri.
+#![tactic(auto)]
+
 ghost use Rattle.std.specs.Prelude.{◌≡◌};
 ghost use Rattle.numbers.specs.Numbers.{names};
 ghost use Rattle.net.specs.Net.{net};

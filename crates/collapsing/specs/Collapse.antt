@@ -1,6 +1,6 @@
 -- The work of collapse_edge, short arm, on a net in the middle of an operation. e is the edge, p its partner and v the vertex where e
 -- ends, which is kept. It asks for no rows in order: an edge may be left alone, for a reason, and the steps may be refused.
-use Rattle.std.specs.Prelude.{Bool, true, false, cond, List, ℕ, ◌≤◌, ℤ, length}
+use Rattle.std.specs.Prelude.{Bool, cond, List, ℕ, ◌≤◌, ℤ, length}
 use Rattle.answers.specs.Answers.{Said, long}
 use Rattle.numbers.specs.Numbers.{named_or}
 use Rattle.numbers.specs.Next.{next}

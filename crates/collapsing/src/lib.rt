@@ -1,5 +1,7 @@
 // Collapsing a short edge on a net in the middle of an operation: the work of collapse_edge past its checks. Nothing here asks for rows in
 // order: an edge that has no pair, is long, or has a start whose fan is open is left alone, and a row that isn't there stops the steps.
+#![tactic(auto)]
+
 ghost use Rattle.std.specs.Prelude.{◌≡◌, true, List, [], ℕ, ◌*◌, ◌<◌, ◌≤◌, ◌^◌, ℤ, length, drop};
 ghost use Rattle.numbers.specs.Numbers.{halfedge_number, vertex_number};
 ghost use Rattle.numbers.specs.Next.{next};

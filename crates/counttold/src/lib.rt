@@ -1,5 +1,7 @@
 // What the entries answer that carry counts, as the struct that each one's caller is told: the number and each value that came, 0 for one that
 // did not.
+#![tactic(auto)]
+
 ghost use Rattle.std.specs.Prelude.{◌≡◌};
 ghost use Rattle.formloop.specs.FormLoop.{form_said};
 ghost use Rattle.owners.specs.Scan.{owners_said};

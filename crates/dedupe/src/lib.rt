@@ -1,4 +1,6 @@
 // Deduping an edge: the step of dedupe_edge.
+#![tactic(auto)]
+
 ghost use Rattle.std.specs.Prelude.{◌≡◌, List, ℕ, ◌<◌, ℤ};
 ghost use Rattle.numbers.specs.Numbers.{halfedge_number, vertex_number};
 ghost use Rattle.searches.specs.Seek.{seek};

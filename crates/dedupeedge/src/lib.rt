@@ -1,4 +1,6 @@
 // The entry dedupe_edge: the checks, then the step, which a spare lets put everything back.
+#![tactic(auto)]
+
 ghost use Rattle.std.specs.Prelude.{◌≡◌, ◌<◌, ◌≤◌};
 ghost use Rattle.numbers.specs.Numbers.{halfedge_number, names};
 ghost use Rattle.rows.specs.Halfedges.{lent_halfedges};

@@ -1,7 +1,7 @@
 -- explain_row in words: it says 0 exactly when the row is in order, the number of a clause exactly when that is the first that the row breaks,
 -- and 8 exactly when the row is empty and its triangle is not dead. And two results that its contract allows agree.
 use mathlib.Core.Path.{◌≡◌, refl, sym, ap, ◌∙◌, subst}
-use mathlib.Core.Bool.{true, false, cond, ◌&&◌}
+use mathlib.Core.Bool.{cond, ◌&&◌}
 use mathlib.Core.List.{List}
 use mathlib.Core.Logic.{inl, inr, ◌↔◌}
 use Prim.Native.Nat.{ℕ, suc, ◌<◌}
@@ -21,7 +21,7 @@ use Rattle.rows.specs.Halfedges.{start_of, end_of, pair_of, none, is_empty, is_p
 use Rattle.net.specs.declared.Counts.{Counts}
 use Rattle.net.specs.Net.{Net}
 use Rattle.net.specs.Counts.{Shaped}
-use Rattle.net.specs.Sound.{partner, start_vertex, end_vertex, Empty, DeadRow, LiveRow, InOrder}
+use Rattle.net.specs.Sound.{partner, Empty, DeadRow, LiveRow, InOrder}
 use Rattle.net.proofs.Shape.{shaped_true}
 use Rattle.rowtests.specs.Order.{empty3, apart3, differ, mirrors}
 use Rattle.rowtests.proofs.Right.{named_is, is_named_at, empty_yes, is_empty_yes, paired_yes, is_paired_yes, apart_yes, is_apart_yes, dead_yes, is_dead_yes}

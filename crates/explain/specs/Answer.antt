@@ -1,5 +1,4 @@
 -- What the exported explain_row tells its caller: the number, the clause and the other row; 0 for a value that did not come.
-use Rattle.std.specs.Prelude.{ℕ}
 use Rattle.answers.specs.Answers.{Said, value, counted}
 use Rattle.explain.specs.declared.answer.ExplainAnswer.{ExplainAnswer}
 

@@ -7,7 +7,7 @@
 use Rattle.std.specs.Prelude.{cond, ◌&&◌, List, [], ◌∷◌, ℕ, ◌<◌, ℤ, pos}
 use Rattle.laws.specs.Integers.{eq_z}
 use Rattle.answers.specs.Answers.{Said, whole, done, shape, bad_number}
-use Rattle.numbers.specs.Numbers.{Named, names, named_or, is_named, halfedge_number}
+use Rattle.numbers.specs.Numbers.{names, named_or, is_named, halfedge_number}
 use Rattle.numbers.specs.Next.{next}
 use Rattle.rows.specs.Halfedges.{start_of, end_of, pair_of, is_empty, is_paired, lent_halfedges}
 use Rattle.net.specs.declared.Counts.{Counts}

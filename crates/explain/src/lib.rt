@@ -1,5 +1,7 @@
 // Why a row is not in order: the first of document 01's clauses that it breaks, and the other row that this concerns. The entry
 // explain_row, for the row that answer 3 names and for any other.
+#![tactic(auto)]
+
 ghost use Rattle.std.specs.Prelude.{◌≡◌, ◌<◌, ◌^◌, pos};
 ghost use Rattle.laws.specs.Integers.{eq_z};
 ghost use Rattle.numbers.specs.Numbers.{halfedge_number};

@@ -1,5 +1,7 @@
 // The owner scan's marks: each fan that has an eligible half-edge is walked once, from its least one, which is marked as its owner, and the
 // others of the fan as met. The pairs on the way are tested as it is walked, and those that no walk has met behind it.
+#![tactic(auto)]
+
 ghost use Rattle.std.specs.Prelude.{◌≡◌, true, ℕ, ◌<◌, ◌≤◌, length, get_or};
 ghost use Rattle.numbers.specs.Numbers.{halfedge_number};
 ghost use Rattle.rows.specs.Halfedges.{lent_halfedges};

@@ -1,5 +1,7 @@
 // Walks about a vertex: what splitting pinched vertices does to one fan. A walk makes at most as many turns as there are half-edges,
 // and stops at home.
+#![tactic(auto)]
+
 ghost use Rattle.std.specs.Prelude.{◌≡◌, ◌+◌, ◌<◌, ◌^◌, length};
 ghost use Rattle.numbers.specs.Numbers.{halfedge_number, vertex_number};
 ghost use Rattle.rows.specs.Triples.{lent_triples, triple, put_triple};

@@ -1,4 +1,6 @@
 // The entry form_loop, which has a spare.
+#![tactic(auto)]
+
 ghost use Rattle.std.specs.Prelude.{◌≡◌, ◌<◌, ◌≤◌};
 ghost use Rattle.numbers.specs.Numbers.{halfedge_number, names};
 ghost use Rattle.rows.specs.Halfedges.{lent_halfedges};

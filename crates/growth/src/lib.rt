@@ -1,5 +1,7 @@
 // A net that grows in the middle of an operation. What a step needs to know travels by value: the half-edges in use, beside how the
 // steps run.
+#![tactic(auto)]
+
 ghost use Rattle.std.specs.Prelude.{◌≡◌, true, false, cond, List, ℕ, ◌+◌, ◌*◌, ◌/◌, ◌<◌, ◌≤◌, ◌^◌, ℤ};
 ghost use Rattle.numbers.specs.Numbers.{halfedge_number, vertex_number};
 ghost use Rattle.rows.specs.Halfedges.{lent_halfedges};

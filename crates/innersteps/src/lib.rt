@@ -1,5 +1,7 @@
 // The steps of surgery, exported for the comparison alone: it runs them beside the Rust on nets that need not be sound, as an operation
 // meets them in its middle. Only the shape and the caller's numbers are tested first.
+#![tactic(auto)]
+
 ghost use Rattle.std.specs.Prelude.{◌≡◌, true, List, ℕ, ◌*◌, ◌<◌, ◌≤◌, ℤ, length, drop};
 ghost use Rattle.numbers.specs.Numbers.{halfedge_number};
 ghost use Rattle.rows.specs.Triples.{lent_triples};

@@ -1,5 +1,7 @@
 // Inserting at an edge that is met again: the end vertex is copied, the rows on one side of the edge get the copy, and two triangles
 // fill the gap that opens.
+#![tactic(auto)]
+
 ghost use Rattle.std.specs.Prelude.{◌≡◌, false, List, ℕ, ◌+◌, ◌<◌, ◌≤◌, ◌^◌, ℤ};
 ghost use Rattle.numbers.specs.Numbers.{halfedge_number, vertex_number};
 ghost use Rattle.numbers.specs.Next.{most_halfedges};

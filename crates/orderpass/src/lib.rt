@@ -1,5 +1,7 @@
 // The first pass of splitting pinched vertices, over a net that is sound: the half-edges are put into the order of their visits, each fan
 // walked once. It writes only the work buffer.
+#![tactic(auto)]
+
 ghost use Rattle.std.specs.Prelude.{◌≡◌, ℕ, ◌+◌, ◌<◌, ◌≤◌, ◌^◌, length, get_or};
 ghost use Rattle.numbers.specs.Numbers.{halfedge_number, vertex_number};
 ghost use Rattle.net.specs.Sound.{turn};

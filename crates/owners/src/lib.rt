@@ -1,5 +1,7 @@
 // The owner scan: the entry orbit_owners, for nets that need not be sound. It walks each fan that has an eligible half-edge once, from
 // its least one, tests that every pair points back, the pairs on its way as it walks, and lists those least ones.
+#![tactic(auto)]
+
 ghost use Rattle.std.specs.Prelude.{◌≡◌, ℕ, ◌<◌, ◌≤◌, eqb, length, get_or};
 ghost use Rattle.numbers.specs.Next.{most_halfedges};
 ghost use Rattle.net.specs.Net.{net};

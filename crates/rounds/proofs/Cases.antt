@@ -9,7 +9,7 @@ use Rattle.numbers.specs.Next.{next}
 use Rattle.rows.specs.Halfedges.{column, set_column, append_row, append_triangle}
 use Rattle.rows.specs.Triples.{triple, put_triple}
 use Rattle.pairing.specs.Pairing.{paired}
-use Rattle.steps.specs.Steps.{middle, running, begin, Going, NoRoom}
+use Rattle.steps.specs.Steps.{middle, running, begin, NoRoom}
 use Rattle.walks.specs.Walk.{onward, moved, walk_to, update}
 use Rattle.loops.specs.Loops.{append}
 use Rattle.example.specs.Example.{live_row, dead_row, P-rows}

@@ -1,5 +1,7 @@
 // Deduping all edges: the rounds of dedupe_edges. A round lists the duplicates of every fan and then
 // dedupes those that still are.
+#![tactic(auto)]
+
 ghost use Rattle.std.specs.Prelude.{◌≡◌, ℕ, ◌<◌, ◌≤◌, length, get_or, take, drop};
 ghost use Rattle.numbers.specs.Numbers.{halfedge_number};
 ghost use Rattle.growth.specs.Growth.{so_far, Fitting, More};

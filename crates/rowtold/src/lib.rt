@@ -1,5 +1,7 @@
 // What the entries answer that carry a row at the most, as the struct that their caller is told: the number and the least row that is not in
 // order, 0 where there is none.
+#![tactic(auto)]
+
 ghost use Rattle.std.specs.Prelude.{◌≡◌};
 ghost use Rattle.soundness.specs.Check.{check_said};
 ghost use Rattle.updatevert.specs.UpdateVert.{update_said};

@@ -3,11 +3,11 @@
 use mathlib.Core.Path.{◌≡◌, refl, ◌∙◌}
 use mathlib.Core.Bool.{Bool, true, false, cond}
 use mathlib.Core.List.{List}
-use Prim.Native.Nat.{ℕ, ◌/◌, ◌*◌, ◌<◌, ◌≤◌}
+use Prim.Native.Nat.{ℕ, ◌/◌, ◌*◌, ◌≤◌}
 use native.Mathlib.Nat.{le_refl}
 use native.Mathlib.Omega.{arith}
 use lib.IntN.{ℤ, pos}
-use lib.ListN.{length, drop}
+use lib.ListN.{length}
 use Rattle.laws.specs.Stretches.{filled}
 use Rattle.laws.proofs.Stretches.{over_filled}
 use Rattle.laws.proofs.Tests.{by_test}
@@ -18,7 +18,7 @@ use Rattle.rows.proofs.Threes.{triples_more, laid_back_zeroed}
 use Rattle.steps.specs.Steps.{Middle}
 use Rattle.steps.proofs.Frame.{Frame}
 use Rattle.growth.specs.declared.Limits.{Limits}
-use Rattle.growth.specs.Growth.{Growing, growing, rows_of, halted, inside, settled}
+use Rattle.growth.specs.Growth.{Growing, rows_of, halted, inside, settled}
 use Rattle.settling.specs.Settling.{begun, settled_by}
 use Rattle.settling.proofs.Appended.{Appended, appended_none, appended_trans, appended_zeroed}
 

@@ -15,7 +15,7 @@ use Rattle.rows.specs.Halfedges.{pair_of, append_triangle, lent_halfedges}
 use Rattle.rows.specs.Triples.{lent_triples, triple, put_triple, reference, put_reference}
 use Rattle.pairing.specs.Pairing.{paired}
 use Rattle.pairing.proofs.Told.{paired_up}
-use Rattle.steps.specs.Steps.{Middle, middle, refused, NoRoom, Stopped, ended, with_rows}
+use Rattle.steps.specs.Steps.{Middle, refused, NoRoom, Stopped, ended, with_rows}
 use Rattle.steps.proofs.Frame.{Frame, frame_same, frame_trans, frame_rows, frame_ended}
 use Rattle.walks.specs.Walk.{onward, moved, update}
 use Rattle.walks.proofs.Kept.{length_moved, moved_below, frame_update, update_vertices}

@@ -1,5 +1,7 @@
 // How an operation on a net that grows begins and ends: what there can be, taken once at entry; and at the end, where a step has
 // refused, everything put back.
+#![tactic(auto)]
+
 ghost use Rattle.std.specs.Prelude.{◌≡◌, true, cond, ◌/◌, ◌≤◌};
 ghost use Rattle.rows.specs.Halfedges.{lent_halfedges};
 ghost use Rattle.rows.specs.Triples.{lent_triples, zero_triples, zero_references};

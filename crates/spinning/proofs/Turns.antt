@@ -5,7 +5,7 @@ use native.Mathlib.Nat.{suc-mul}
 use native.Mathlib.Omega.{arith}
 use Rattle.numbers.specs.Next.{next}
 use Rattle.steps.specs.Steps.{Middle}
-use Rattle.spinning.specs.Spin.{Turned, out, on, formed, Fixed, turn_once, tired, Spun, spun, inner, spin}
+use Rattle.spinning.specs.Spin.{out, on, formed, Fixed, turn_once, tired, spun, inner, spin}
 
 module _ (s : Fixed) where
   pub spin_out : (r left start len c : ℕ) (m : Middle) {k : Middle} → 0 < left → out k ≡ turn_once s len c m → spun k start ≡ spin r s left start len c m

@@ -1,5 +1,7 @@
 // The loop of a collapse about the start of its edge. A neighbour that is listed already forms a loop and cuts the list to its place.
 // Nothing here asks for rows in order.
+#![tactic(auto)]
+
 ghost use Rattle.std.specs.Prelude.{◌≡◌, List, ℕ, ◌<◌, ◌≤◌, ℤ, length};
 ghost use Rattle.numbers.specs.Numbers.{halfedge_number};
 ghost use Rattle.rows.specs.Halfedges.{lent_halfedges};

@@ -1,4 +1,6 @@
 // Splitting pinched vertices: the entry split_pinched_verts, and what it does past its checks, between two clearings of the work buffer.
+#![tactic(auto)]
+
 ghost use Rattle.std.specs.Prelude.{◌≡◌, ◌+◌, ◌≤◌, length};
 ghost use Rattle.net.specs.Net.{net};
 ghost use Rattle.net.specs.Counts.{vertex_capacity_over};

@@ -1,6 +1,8 @@
 // Splitting pinched vertices past the checks, over a cleared work buffer. The half-edges are put into the order of their visits, each fan
 // walked once. That writes only the work buffer, and finds whether every fan closes and how many vertices will be copied; so what goes by
 // the order afterwards, and writes the net, cannot fail.
+#![tactic(auto)]
+
 ghost use Rattle.std.specs.Prelude.{◌≡◌, ◌+◌, ◌≤◌, length, drop};
 ghost use Rattle.laws.specs.Stretches.{cleared};
 ghost use Rattle.net.specs.Counts.{vertex_capacity_over};

@@ -1,6 +1,6 @@
 -- The scan with a table finds the duplicates: what entering a fan and taking it back leave, and what holds before each half-edge.
 use mathlib.Core.Path.{◌≡◌, refl, sym, ap, ◌∙◌, subst}
-use mathlib.Core.Bool.{Bool, true, false, cond, ◌&&◌, ◌||◌, not}
+use mathlib.Core.Bool.{Bool, true, false, cond, ◌||◌, not}
 use mathlib.Core.List.{List, [], ◌∷◌}
 use mathlib.Core.Logic.{◌⊎◌, inl, inr, ⊎_elim, ◌≢◌}
 use Prim.Native.Nat.{ℕ, ◌+◌, ◌/◌, ◌%◌, ◌<◌, ◌≤◌}
@@ -15,13 +15,13 @@ use Rattle.laws.proofs.Tests.{by_test, not_both, and2, or_cases, or_left, or_rig
 use Rattle.numbers.specs.Numbers.{Named, at, nothing, names, is_named}
 use Rattle.numbers.specs.Next.{most_halfedges}
 use Rattle.numbers.proofs.Names.{at_inj, names_below}
-use Rattle.rows.specs.Halfedges.{end_of, is_started, is_ended}
+use Rattle.rows.specs.Halfedges.{end_of}
 use Rattle.searches.specs.Duplicates.{fan, ends_alike, is_duplicate, is_in}
 use Rattle.ordering.specs.inner.Order.{walked_bit, entry_limit, see, place, is_walked, entry}
 use Rattle.ordering.proofs.Words.{bit, see_bit, see_entry, see_other, place_bit, place_entry, place_other}
 use Rattle.duplicates.specs.Scan.{Entries, entries, push_all, picked, Scan, scan}
 use Rattle.duplicates.proofs.Scans.{Below, fan_in, Scanning, scanning_begins, scanning_passed, scanning_walked}
-use Rattle.tables.specs.Table.{Table, table, lesser, enter_at, enter, enter_all, is_over, clear_at, clear_all, is_done, table_fan, table_row}
+use Rattle.tables.specs.Table.{Table, table, lesser, enter_at, enter, enter_all, is_over, clear_at, clear_all, is_done, table_row}
 use Rattle.tables.proofs.Least.{entry_small, lesser_some, lesser_bound, Ends, lowered, lowered_some, least, least_from, dup_tells, alike_ends, over_is, picked_same, picked_none}
 
 -- the same length, and the same from n on

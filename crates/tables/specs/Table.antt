@@ -3,7 +3,7 @@
 --
 -- An entry of the work buffer says two things. Its top bit says of half-edge k that a walk has met it. Below that stands, while a fan is
 -- walked, one more than the least half-edge met that ends at vertex k, or 0 where none does.
-use Rattle.std.specs.Prelude.{Bool, true, false, cond, ◌&&◌, ◌||◌, not, List, [], ◌∷◌, ℕ, ◌+◌, eqb, ltb, ℤ}
+use Rattle.std.specs.Prelude.{Bool, false, cond, ◌&&◌, ◌||◌, not, List, [], ◌∷◌, ℕ, ◌+◌, eqb, ltb, ℤ}
 use Rattle.numbers.specs.Numbers.{Named, at, nothing, names}
 use Rattle.rows.specs.Halfedges.{end_of, is_started, is_ended}
 use Rattle.searches.specs.Duplicates.{fan}

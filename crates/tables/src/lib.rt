@@ -1,5 +1,7 @@
 // The duplicates of a net, listed with a table: while a fan is walked, the least of its half-edges that ends at each vertex. So each fan
 // is walked twice, or three times where it has duplicates, however many half-edges it has.
+#![tactic(auto)]
+
 ghost use Rattle.std.specs.Prelude.{◌≡◌, false, cond, ℕ, ◌+◌, ◌<◌, ◌≤◌, length, get_or, drop};
 ghost use Rattle.numbers.specs.Next.{most_halfedges};
 ghost use Rattle.numbers.specs.Numbers.{halfedge_number, names};

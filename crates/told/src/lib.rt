@@ -1,6 +1,8 @@
 // What crosses the C interface: the counts, the points and the choices that a caller gives, and what next_halfedge, tri_of, short_test and pair_up
 // answer, as the struct that the caller is told: the number and each value that came, 0 for one that did not. The others' answers are in rowtold,
 // counttold, repairtold and explain.
+#![tactic(auto)]
+
 ghost use Rattle.std.specs.Prelude.{◌≡◌};
 ghost use Rattle.numbers.specs.Next.{next_said, tri_said};
 ghost use Rattle.floats.specs.Short.{length_said};

@@ -1,4 +1,6 @@
 // The entry update_vert. It has no spare, and tries the walk without writing first.
+#![tactic(auto)]
+
 ghost use Rattle.std.specs.Prelude.{◌≡◌, ◌<◌, ◌^◌};
 ghost use Rattle.numbers.specs.Numbers.{halfedge_number, vertex_number, names};
 ghost use Rattle.net.specs.Net.{net};

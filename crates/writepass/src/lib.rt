@@ -1,5 +1,7 @@
 // The second pass of splitting pinched vertices, over a net that is sound: it goes by the order of the visits and writes the net and the list
 // of the visits, or the list alone.
+#![tactic(auto)]
+
 ghost use Rattle.std.specs.Prelude.{◌≡◌, ◌+◌, ◌<◌, ◌≤◌, length};
 ghost use Rattle.ordering.specs.inner.Order.{written, write_entry, write_order, list_order};
 ghost use Rattle.ordering.specs.inner.Needs.{EntryNeeds, OrderNeeds};

@@ -1,0 +1,20 @@
+-- `rowtold::of_update` meets its contract: each case tells what `updatevert::update_vert` says.
+use Rattle.rowtold.proofs.of_update.Goals as goal
+
+pub returns-in-Done : goal.returns-in-Done
+returns-in-Done c = rw c.in-Done.is
+
+pub returns-in-Shape : goal.returns-in-Shape
+returns-in-Shape c = rw c.in-Shape.is
+
+pub returns-in-Unsound : goal.returns-in-Unsound
+returns-in-Unsound c = rw (c.number.ensures, c.in-Unsound.is)
+
+pub returns-in-Number : goal.returns-in-Number
+returns-in-Number c = rw c.in-Number.is
+
+pub returns-in-Dead : goal.returns-in-Dead
+returns-in-Dead c = rw c.in-Dead.is
+
+pub returns-in-Stopped : goal.returns-in-Stopped
+returns-in-Stopped c = rw c.in-Stopped.is

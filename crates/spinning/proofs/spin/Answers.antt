@@ -1,0 +1,92 @@
+-- `spinning::spin` meets its contract: what is left of the loop is the whole loop. Each way out of a turn is one law.
+use mathlib.Core.Path.{refl, ap, ◌∙◌}
+use native.Mathlib.Omega.{arith}
+use Rattle.numbers.proofs.NextLaws.{next_in}
+use Rattle.steps.specs.Steps.{Middle, middle}
+use Rattle.spinning.specs.Spin.{fixed, spun}
+use Rattle.spinning.proofs.Turns.{spin_out, spin_on, spin_formed, spin_last, fewer}
+use Rattle.spinning.proofs.spin.Goals as goal
+
+pub loop-left-init : goal.loop-left-init
+loop-left-init c = let p = c.requires.1.1 in (p.1, p.0, p.1, omega arith, omega arith, refl, refl, refl)
+
+pub turn_once-requires : goal.turn_once-requires
+turn_once-requires c =
+    let p = c.requires in
+    let i = c.loop-left.invariant in
+    (p.0, ((omega (arith, p.1.0.0, i.5), omega (arith, p.1.0.1, i.6)), (i.1, (i.0, omega (arith, i.3, i.4)))))
+
+pub shape_of-rows-in-Out : goal.shape_of-rows-in-Out
+shape_of-rows-in-Out c = c.turn_once.auto.rows ∙ c.loop-left.invariant.5
+
+pub shape_of-positions-in-Out : goal.shape_of-positions-in-Out
+shape_of-positions-in-Out c = c.turn_once.auto.positions ∙ c.loop-left.invariant.6
+
+pub returns-in-Out : goal.returns-in-Out
+returns-in-Out c =
+    let a = c.args in
+    let l = c.loop-left in
+    let e = rw c.in-Out.is at c.turn_once.ensures in
+    (spin_out (fixed a.ends a.references.now a.list.now) l.loops l.left l.start.0 l.len l.at.0 (middle l.rows l.positions l.run) c.loop-left-test.true e.0 ∙ l.invariant.7, (e.1, l.invariant.2))
+
+pub loop-left-smaller-in-On : goal.loop-left-smaller-in-On
+loop-left-smaller-in-On c = omega arith
+
+pub loop-left-preserved-in-On : goal.loop-left-preserved-in-On
+loop-left-preserved-in-On c =
+    let a = c.args in
+    let l = c.loop-left in
+    let e = rw c.in-On.is at c.turn_once.ensures in (
+      e.1.1,
+      e.1.0,
+      l.invariant.2,
+      l.invariant.3,
+      l.invariant.4,
+      c.turn_once.auto.rows ∙ l.invariant.5,
+      c.turn_once.auto.positions ∙ l.invariant.6,
+      spin_on (fixed a.ends a.references.now a.list.now) l.loops l.left l.start.0 l.len l.at.0 (middle l.rows l.positions l.run) c.loop-left-test.true e.0 ∙ l.invariant.7,
+    )
+
+pub overflow_sub-loops : goal.overflow_sub-loops
+overflow_sub-loops c =
+    let e = rw c.in-Formed.is at c.turn_once.ensures in
+    omega (arith, e.1.1.1, c.loop-left.invariant.3)
+
+pub loop-left-smaller : goal.loop-left-smaller
+loop-left-smaller c =
+    let e = rw c.in-Formed.is at c.turn_once.ensures in
+    fewer c.loop-left.loops c.args.ends.halfedges c.loop-left.left (omega (arith, e.1.1.1, c.loop-left.invariant.3))
+
+pub loop-left-preserved : goal.loop-left-preserved
+loop-left-preserved c =
+    let a = c.args in
+    let l = c.loop-left in
+    let e = rw c.in-Formed.is at c.turn_once.ensures in (
+      e.1.1.0,
+      e.1.0,
+      e.1.1.0,
+      omega (arith, e.1.1.1, l.invariant.3),
+      omega (arith, l.invariant.4),
+      c.turn_once.auto.rows ∙ l.invariant.5,
+      c.turn_once.auto.positions ∙ l.invariant.6,
+      spin_formed (fixed a.ends a.references.now a.list.now) l.loops l.left l.start.0 l.len l.at.0 (middle l.rows l.positions l.run) c.loop-left-test.true (omega (arith, e.1.1.1, l.invariant.3)) e.0 ∙ l.invariant.7,
+    )
+
+pub next-requires : goal.next-requires
+next-requires c = let a = c.requires.0 in omega (arith, a.edge_in, a.few)
+
+pub next-requires-2 : goal.next-requires-2
+next-requires-2 c = let a = c.requires.0 in let n = next_in _ _ a.edge_in a.thirds in omega (arith, n, c.next.ensures, a.few)
+
+pub shape_of-rows : goal.shape_of-rows
+shape_of-rows c = c.loop-left.invariant.5
+
+pub shape_of-positions : goal.shape_of-positions
+shape_of-positions c = c.loop-left.invariant.6
+
+pub returns : goal.returns
+returns c =
+    let a = c.args in
+    let l = c.loop-left in
+    let t = rw (c.next-2.ensures, c.next.ensures) at (c.tired.ensures.0 l.rows l.positions) in
+    (ap (λ (m : Middle). spun m l.start.0) t ∙ spin_last (fixed a.ends a.references.now a.list.now) l.loops l.left l.start.0 l.len l.at.0 (middle l.rows l.positions l.run) c.loop-left-test.false ∙ l.invariant.7, (rw c.tired.ensures.1 l.invariant.1, l.invariant.2))

@@ -1,0 +1,47 @@
+-- `spinning::turn_once` meets its contract: each return is by the tests met so far.
+use mathlib.Core.Path.{sym, ap, ◌∙◌}
+use native.Mathlib.Omega.{arith}
+use borrow.Author.Tests.{eq-eqb, ne_eqb}
+use Rattle.numbers.specs.Next.{next}
+use Rattle.numbers.proofs.NextLaws.{next_in}
+use Rattle.spinning.specs.Spin.{turn_once}
+use Rattle.spinning.proofs.turn_once.Goals as goal
+
+pub returns-then-refused : goal.returns-then-refused
+unfolding turn_once
+returns-then-refused c = (rw (← c.refused.ensures, c.if-refused.true), c.requires.1.1.0)
+
+pub next-requires : goal.next-requires
+next-requires c = let a = c.requires.0 in omega (arith, a.edge_in, a.few)
+
+pub next-requires-2 : goal.next-requires-2
+next-requires-2 c = let a = c.requires.0 in let n = next_in _ _ a.edge_in a.thirds in omega (arith, n, c.next.ensures, a.few)
+
+pub returns-then-number : goal.returns-then-number
+unfolding turn_once
+returns-then-number c =
+    let third = c.number-2.ensures ∙ c.next-2.ensures ∙ ap next c.next.ensures in
+    (rw (← c.refused.ensures, c.if-refused.false, eq-eqb _ _ (sym c.number.ensures ∙ c.if-number.true ∙ third)), c.requires.1.1.0)
+
+pub next-h-requires : goal.next-h-requires
+next-h-requires c = let a = c.requires.0 in omega (arith, c.requires.1.1.1.0, a.few)
+
+pub carry_prop-requires : goal.carry_prop-requires
+carry_prop-requires c =
+    let a = c.requires.0 in
+    let n = next_in _ _ c.requires.1.1.1.0 a.thirds in
+    ((a.edge_in, (a.partner_in, rw c.next-h.ensures n)), ((a.thirds, (c.requires.1.0.0, a.few)), a.faces))
+
+pub turn_at-requires : goal.turn_at-requires
+turn_at-requires c =
+    let a = c.requires.0 in
+    let p = c.requires.1 in
+    let n = next_in _ _ p.1.1.0 a.thirds in
+    ((rw c.next-h.ensures n, (a.thirds, (omega (arith, p.0.0, c.carry_prop.auto.rows), a.few))), ((p.1.0, (p.0.1, a.room)), (p.1.1.1, a.all_in)))
+
+pub returns : goal.returns
+unfolding turn_once
+returns c =
+    let third = c.number-2.ensures ∙ c.next-2.ensures ∙ ap next c.next.ensures in
+    let away = ne_eqb _ _ (λ e. c.if-number.false (c.number.ensures ∙ e ∙ sym third)) in
+    (rw (← c.refused.ensures, c.if-refused.false, away, ← c.next-h.ensures, ← c.carry_prop.ensures) c.turn_at.ensures.0, c.turn_at.ensures.1)
