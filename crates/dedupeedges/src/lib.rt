@@ -1,4 +1,6 @@
 // The entry dedupe_edges: the checks, then the rounds, which a spare lets put everything back.
+#![tactic(auto)]
+
 ghost use Rattle.std.specs.Prelude.{◌≡◌, ◌≤◌, length};
 ghost use Rattle.laws.specs.Stretches.{cleared};
 ghost use Rattle.rows.specs.Halfedges.{lent_halfedges};

@@ -17,8 +17,7 @@ use Rattle.rows.specs.Triples.{triple, put_triple}
 use Rattle.rows.proofs.Threes.{length_put}
 use Rattle.net.specs.Sound.{partner, InOrder, Live}
 use Rattle.net.proofs.Sound.{live_row, next_live, partner_live}
-use Rattle.pairing.specs.Pairing.{paired}
-use Rattle.steps.specs.Steps.{middle, is_refused, NoRoom, begin}
+use Rattle.steps.specs.Steps.{is_refused, NoRoom, begin}
 use Rattle.walks.specs.Walk.{onward, moved, walk_to, update}
 use Rattle.walks.specs.Way.{move, Reached}
 use Rattle.walks.proofs.Kept.{length_moved, moved_below, other_moved, length_walk, walk_below, other_walk}

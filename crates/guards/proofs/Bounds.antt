@@ -1,6 +1,6 @@
 -- Document 01's bounds, by number: over any arrays that are long enough a count at the bound is in shape and one more is not, for
 -- vertices, triangles, property rows and num_prop; and with more rows lent appends stop at the bound.
-use mathlib.Core.Path.{◌≡◌, refl, sym, ◌∙◌}
+use mathlib.Core.Path.{◌≡◌, refl}
 use mathlib.Core.Bool.{Bool, true, false, cond}
 use mathlib.Core.List.{List}
 use mathlib.Core.Logic.{◌↔◌, inl, inr}
@@ -16,9 +16,8 @@ use Rattle.net.specs.declared.Counts.{Counts}
 use Rattle.net.specs.Net.{Net, net}
 use Rattle.net.specs.Counts.{triangle_capacity_over, halfedge_capacity_over, vertex_capacity_over, property_capacity_over, Shaped}
 use Rattle.net.specs.Sound.{Live, Sound}
-use Rattle.splitting.specs.Split.{SplitOutcome, split_pinched}
+use Rattle.splitting.specs.Split.{split_pinched}
 use Rattle.splitting.specs.Told.{IsFull}
-use Rattle.splitsound.specs.Demand.{Demand3}
 use Rattle.splitsound.proofs.Told.{demand_3}
 use Rattle.formloop.specs.FormLoop.{form_loop}
 use Rattle.loopsound.proofs.Told.{form_no_room}

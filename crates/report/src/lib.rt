@@ -1,4 +1,6 @@
 // The text of a report, put into a lent buffer behind the bytes in use: the answer, and what comes with it.
+#![tactic(auto)]
+
 ghost use Rattle.std.specs.Prelude.{◌≡◌, [], ◌∷◌, ◌++◌, ◌+◌, ◌*◌, ◌<◌, ◌≤◌, length, take};
 ghost use Rattle.digits.specs.Written.{comma, decimal, signed};
 ghost use Rattle.rows.specs.Halfedges.{is_paired, lent_halfedges};
