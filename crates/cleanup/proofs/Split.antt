@@ -1,6 +1,6 @@
 -- Splitting past the checks, as a step of a growing net: it leaves alone what every step does, and of work buffer and list writes no more
 -- than their first half-edge and vertex entries.
-use mathlib.Core.Path.{◌≡◌, refl, sym, ap, ◌∙◌, subst}
+use mathlib.Core.Path.{◌≡◌, refl, sym, ap, ◌∙◌}
 use mathlib.Core.List.{List, [], ◌++◌, append_assoc}
 use mathlib.Core.Logic.{◌⊎◌, inl, inr}
 use Prim.Native.Nat.{ℕ, ◌+◌, ◌-◌, ◌*◌, ◌≤◌}
@@ -9,14 +9,13 @@ use native.Mathlib.Omega.{arith}
 use lib.IntN.{ℤ}
 use lib.ListN.{length, take, drop, replicate, length-append, length-replicate}
 use lib.Seq.{drop_at, length-take-le}
-use Rattle.laws.specs.Stretches.{filled, cleared}
+use Rattle.laws.specs.Stretches.{cleared}
 use Rattle.rows.specs.Triples.{lent_triples, triples_from, zero_triples}
 use Rattle.rows.proofs.Threes.{length_zeroed_triples}
 use Rattle.net.specs.declared.Counts.{Counts}
 use Rattle.net.specs.Net.{Net, net}
-use Rattle.net.specs.Counts.{Shaped, triangle_capacity_over, vertex_capacity_over, property_capacity_over}
+use Rattle.net.specs.Counts.{triangle_capacity_over, vertex_capacity_over, property_capacity_over}
 use Rattle.net.specs.Sound.{Sound}
-use Rattle.net.proofs.Shape.{capacity_lent, capacity_most}
 use Rattle.splitting.specs.inner.Needs.{SoundRows}
 use Rattle.splitting.specs.Split.{SplitOutcome, split_sound}
 use Rattle.splitting.specs.Told.{SplitDone, IsFull}
@@ -28,7 +27,7 @@ use Rattle.settling.specs.Settling.{begun}
 use Rattle.settling.proofs.Appended.{appended_none}
 use Rattle.settling.proofs.Grows.{Grows}
 use Rattle.settling.proofs.Kept.{Fitting, Grew}
-use Rattle.cleanup.specs.Cleanup.{split_run, after_split}
+use Rattle.cleanup.specs.Cleanup.{after_split}
 
 -- rows in order over H half-edges and N vertices are a sound net without normals, references and properties
 module _ (H N : ℕ) (rows : List ℤ) (positions : List ℕ) (s : SoundRows H N rows) (few : N ≤ vertex_capacity_over positions) where

@@ -1,5 +1,7 @@
 // Cleaning a net up: the entry cleanup_topology. Past the checks pinched vertices are split, then duplicate edges deduped in rounds; one
 // spare, taken before the split, lets put everything back.
+#![tactic(auto)]
+
 ghost use Rattle.std.specs.Prelude.{◌≡◌, ◌+◌, ◌≤◌};
 ghost use Rattle.net.specs.Net.{net};
 ghost use Rattle.net.specs.Counts.{most_vertices, vertex_capacity_over};

@@ -1,6 +1,8 @@
 // What the report program does with a file: it reads a mesh file of form 1, splits its pinched vertices, and puts the text of the
 // report into a buffer: the answer, the vertices added, the steps, the visit list and the euler number; of a refusal the answer, with its
 // row or line.
+#![tactic(auto)]
+
 ghost use Rattle.std.specs.Prelude.{◌≡◌, ◌*◌, ◌≤◌, length};
 ghost use Rattle.rows.specs.Halfedges.{lent_halfedges};
 ghost use Rattle.splitcleared.specs.Answer.{split_said};
