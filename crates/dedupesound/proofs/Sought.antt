@@ -101,7 +101,7 @@ module _ (H N : ℕ) (rows : List ℤ) (thirds : H % 3 ≡ 0) (lent : H ≤ lent
       let s = soon T (move rows home) p back.0 in
       stops v home H s.0 (move rows home) m (omega (arith, s.1, p.le)) (s.2 ∙ back.1)
 
-  -- one that came home has Passed every other half-edge that the moves come to
+  -- one that came home has passed every other half-edge that the moves come to
   module _ (v home : ℕ) (came : CameHome v home (move rows home)) where
     abbrev Passed : ℕ → Type 0
     Passed g = (g ≡ home) ⊎ ((k : ℕ) × ((k < came.moves) × (iter (move rows) k (move rows home) ≡ g)))

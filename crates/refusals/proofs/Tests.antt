@@ -1,7 +1,6 @@
 -- What the checks' tests tell: a shape, a buffer's length, the least row out of order, a number that names a row, a live half-edge.
 use mathlib.Core.Path.{◌≡◌, refl, sym}
 use mathlib.Core.Bool.{Bool, true, false, true≢false, ◌&&◌}
-use Prim.{tt}
 use Prim.Native.Nat.{ℕ, ◌≤◌}
 use borrow.Author.Tests.{le-leb, leb-true}
 use lib.Dec.{leb}

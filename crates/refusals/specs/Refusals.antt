@@ -1,7 +1,6 @@
 -- The refusals 1 to 5 in words: each is given exactly when document 01 says so, the first in its order where several are true, and
 -- everything lent is then as at entry. Nothing here names a test.
 use Rattle.std.specs.Prelude.{◌≡◌, ◌↔◌, ℕ, ◌<◌, ℤ, pos}
-use Prim.{Unit}
 use Rattle.answers.specs.Answers.{Said, shape, short_buffer, unsound, bad_number, dead}
 use Rattle.net.specs.declared.Counts.{Counts}
 use Rattle.net.specs.Net.{Net}
