@@ -1,5 +1,7 @@
 // What the entries that repair a net answer, as the struct that each one's caller is told: the number and each value that came, 0 for one that
 // did not. Each entry has a struct of its own.
+#![tactic(auto)]
+
 ghost use Rattle.std.specs.Prelude.{◌≡◌};
 ghost use Rattle.dedupeedge.specs.DedupeEdge.{dedupe_said};
 ghost use Rattle.dedupeedges.specs.DedupeEdges.{edges_said};

@@ -1,0 +1,29 @@
+-- `repairtold::of_collapse` meets its contract: each case tells what `collapse::collapse_edge` says.
+use Rattle.repairtold.proofs.of_collapse.Goals as goal
+
+pub returns-in-Done : goal.returns-in-Done
+returns-in-Done c = rw c.in-Done.is
+
+pub returns-in-Shape : goal.returns-in-Shape
+returns-in-Shape c = rw (c.collapse_refused.ensures, c.in-Shape.is)
+
+pub returns-in-ShortBuffer : goal.returns-in-ShortBuffer
+returns-in-ShortBuffer c = rw (c.collapse_refused-in-ShortBuffer.ensures, c.in-ShortBuffer.is)
+
+pub returns-in-Unsound : goal.returns-in-Unsound
+returns-in-Unsound c = rw (c.number.ensures, c.in-Unsound.is)
+
+pub returns-in-Number : goal.returns-in-Number
+returns-in-Number c = rw (c.collapse_refused-in-Number.ensures, c.in-Number.is)
+
+pub returns-in-Dead : goal.returns-in-Dead
+returns-in-Dead c = rw (c.collapse_refused-in-Dead.ensures, c.in-Dead.is)
+
+pub returns-in-Long : goal.returns-in-Long
+returns-in-Long c = rw (c.bits_of-in-Long.ensures, c.bits_of.ensures, c.in-Long.is)
+
+pub returns-in-NoRoom : goal.returns-in-NoRoom
+returns-in-NoRoom c = rw (c.collapse_refused-in-NoRoom.ensures, c.in-NoRoom.is)
+
+pub returns-in-Stopped : goal.returns-in-Stopped
+returns-in-Stopped c = rw (c.collapse_refused-in-Stopped.ensures, c.in-Stopped.is)
