@@ -16,19 +16,19 @@ abbrev number_of : Value → ℕ
 number_of (whole z) = nat_abs z
 number_of (float f) = 0
 
-abbrev first_of : List Value → ℕ
-first_of [] = 0
-first_of (x ∷ l) = number_of x
+abbrev first_number : List Value → ℕ
+first_number [] = 0
+first_number (x ∷ l) = number_of x
 
-abbrev second_of : List Value → ℕ
-second_of [] = 0
-second_of (x ∷ l) = first_of l
+abbrev second_number : List Value → ℕ
+second_number [] = 0
+second_number (x ∷ l) = first_number l
 
 abbrev pub first_value : Said → ℕ
-first_value s = first_of s.values
+first_value s = first_number s.values
 
 abbrev pub second_value : Said → ℕ
-second_value s = second_of s.values
+second_value s = second_number s.values
 
 pub same_row : (g h : ℕ) → unsound g ≡ unsound h → g ≡ h
 same_row g h e = ap first_value e

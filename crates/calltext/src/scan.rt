@@ -1,6 +1,6 @@
 // Numbers read from text: whatever is no digit and no minus sign stands between them.
 ghost use Rattle.std.specs.Prelude.{◌≡◌, ◌<◌, ◌≤◌, true, length, ◌==◌, slice_index};
-ghost use Rattle.calltext.specs.Scan.{is_digit, first_from, with_digit, digits_at, number_from, signed_of, count_of, word_of, byte_of, up_to, room as Scan·room, list_from};
+ghost use Rattle.calltext.specs.Scan.{is_digit, first_from, with_digit, digits_at, number_from, signed_of, count_of, word_of, byte_of, up_to, room, list_from};
 
 // A number, and the place behind it.
 #[derive(Clone, Copy)]
@@ -113,7 +113,7 @@ fn signed(s: Scanned) -> i32
 
 // How many numbers there are, or how many there is room for.
 fn room(count: u64, long: usize) -> usize
-    ensures { (result ≡ Scan·room count long) × (result ≤ long) }
+    ensures { (result ≡ room count long) × (result ≤ long) }
 {
     if count < long as u64 {
         return count as usize;

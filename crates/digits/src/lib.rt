@@ -3,7 +3,7 @@
 #![tactic(auto)]
 
 ghost use Rattle.std.specs.Prelude.{◌≡◌, [], ◌∷◌, ◌≤◌, drop};
-ghost use Rattle.digits.specs.Steps.{first_byte, after, count, number, more as Steps·more, hex_from, most, digit as Steps·digit, count_then, number_then, hex_then};
+ghost use Rattle.digits.specs.Steps.{first_byte, after, count, number, more, hex_from, most, digit, count_then, number_then, hex_then};
 ghost use Rattle.digits.specs.Told.{byte_got, Steps, past_got, count_got, number_got, bits_got};
 
 // A byte and the place behind it, or the end of the text.
@@ -76,7 +76,7 @@ pub fn word(text: &[u8], at: usize, word: &[u8]) -> Past
 
 // A digit's number, or 16 for any other byte.
 fn digit(b: u8) -> usize
-    ensures { (result ≡ Steps·digit b) × (result ≤ 16) }
+    ensures { (result ≡ digit b) × (result ≤ 16) }
 {
     let x = b as usize;
     if (48 <= x) & (x <= 57) {
@@ -91,7 +91,7 @@ fn digit(b: u8) -> usize
 // The decimal digits that follow those that made `first`.
 fn more(text: &[u8], at: usize, first: usize) -> Count
     requires { first ≤ most }
-    ensures { count_got text.now result ≡ Steps·more (drop at text.now) first }
+    ensures { count_got text.now result ≡ more (drop at text.now) first }
 {
     let mut value = first;
     let mut place = at;
@@ -123,7 +123,9 @@ pub fn read_count(text: &[u8], at: usize) -> Count
     if 9 < d {
         return Count::Bad;
     }
-    if d == 0 {
+    // a first digit of 0 is the whole number
+    let whole = d == 0;
+    if whole {
         return Count::Is(0, next);
     }
     more(text, next, d)

@@ -209,14 +209,19 @@ pub enum Next {
     Number,
 }
 
+// The two numbers that have no next, since it would be no i32: one more than MOST, two less than LEAST.
+const MOST: i32 = 2147483647;
+
+const LEAST: i32 = -2147483647;
+
 // The entry next_halfedge, on every i32.
 pub fn next_halfedge(h: i32) -> Next
     ensures { next_said result ≡ next_answer h }
 {
-    if h == 2147483647 {
+    if h == MOST {
         return Next::Number;
     }
-    if h == -2147483647 {
+    if h == LEAST {
         return Next::Number;
     }
     let up = h + 1;

@@ -6,7 +6,7 @@ ghost use Rattle.std.specs.Prelude.{◌≡◌, ◌<◌, ◌≤◌};
 ghost use Rattle.numbers.specs.Numbers.{halfedge_number, halfedge_named, names};
 ghost use Rattle.rows.specs.Halfedges.{pair_of, lent_halfedges};
 ghost use Rattle.ownertests.specs.Tests.{is_back, points_back, turns_to};
-ghost use Rattle.ownertests.specs.Tests.{eligible as is-eligible};
+ghost use Rattle.ownertests.specs.Tests.{eligible as is_eligible};
 ghost use Rattle.ownertests.specs.inner.Needs.{InUse};
 
 use numbers::{Halfedge, NamedHalfedge};
@@ -21,7 +21,7 @@ pub enum Eligible {
 // h counts, by the caller's choice.
 pub fn is_eligible(rows: &[i32], h: Halfedge, eligible: Eligible) -> bool
     requires { halfedge_number h < lent_halfedges rows.now }
-    ensures { result ≡ is-eligible eligible rows.now (halfedge_number h) }
+    ensures { result ≡ is_eligible eligible rows.now (halfedge_number h) }
 {
     match eligible {
         Eligible::Start => edgetests::is_started(rows, h),

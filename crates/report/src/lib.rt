@@ -5,7 +5,7 @@ ghost use Rattle.std.specs.Prelude.{◌≡◌, [], ◌∷◌, ◌++◌, ◌+◌,
 ghost use Rattle.digits.specs.Written.{comma, decimal, signed};
 ghost use Rattle.rows.specs.Halfedges.{is_paired, lent_halfedges};
 ghost use Rattle.texts.specs.Appended.{Appended, line};
-ghost use Rattle.report.specs.Report.{Listed, one as Report·one, answer_word, visit_word, euler_word, commas, live_halfedges, live_triangles, euler, text_of};
+ghost use Rattle.report.specs.Report.{Listed, one, answer_word, visit_word, euler_word, commas, live_halfedges, live_triangles, euler, text_of};
 
 // What is reported: added and steps, an answer, the least row that is not in order, or the first bad line.
 #[derive(Clone, Copy)]
@@ -59,7 +59,7 @@ fn put_visit_line(out: &mut [u8], used: usize, visit: &[u32], steps: usize) -> u
 }
 
 fn one(t: bool) -> usize
-    ensures { (result ≡ Report·one t) × (result ≤ 1) }
+    ensures { (result ≡ one t) × (result ≤ 1) }
 {
     if t { 1 } else { 0 }
 }

@@ -5,7 +5,7 @@
 ghost use Rattle.std.specs.Prelude.{◌≡◌, ◌+◌, ◌≤◌, length, pos, ◌-ℤ◌};
 ghost use Rattle.digits.specs.Written.{decimal, signed};
 ghost use Rattle.texts.specs.Appended.{Appended, line};
-ghost use Rattle.texts.specs.Put.{put as Put·put};
+ghost use Rattle.texts.specs.Put.{put};
 
 // Puts bytes behind those in use.
 pub fn put_bytes(out: &mut [u8], used: usize, bytes: &[u8]) -> usize
@@ -54,7 +54,7 @@ pub fn put_difference(out: &mut [u8], used: usize, more: usize, less: usize) -> 
 
 // Puts bytes, where they fit.
 pub fn put(out: &mut [u8], used: usize, bytes: &[u8]) -> usize
-    ensures { (out.new, result) ≡ Put·put bytes.now (out.old, used) }
+    ensures { (out.new, result) ≡ put bytes.now (out.old, used) }
 {
     if out.len() < used {
         return used;
@@ -67,7 +67,7 @@ pub fn put(out: &mut [u8], used: usize, bytes: &[u8]) -> usize
 
 // Puts a decimal number, where it fits.
 pub fn put_decimal(out: &mut [u8], used: usize, n: u64) -> usize
-    ensures { (out.new, result) ≡ Put·put (decimal n) (out.old, used) }
+    ensures { (out.new, result) ≡ put (decimal n) (out.old, used) }
 {
     let mut text = [0u8; 20];
     let k = io::decimal(n, &mut text);

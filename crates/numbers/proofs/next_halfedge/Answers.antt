@@ -14,16 +14,16 @@ use Rattle.numbers.specs.Next.{next_z, no_next}
 use Rattle.numbers.proofs.NextLaws.{one_more, two_less, third_fits, has_next}
 use Rattle.numbers.proofs.next_halfedge.Goals as goal
 
-pub returns-then-h-eq2147483647 : goal.returns-then-h-eq2147483647
+pub returns-then-h-eq-MOST : goal.returns-then-h-eq-MOST
 unfolding no_next
-returns-then-h-eq2147483647 c = rw (bits_inj w32 c.args.h (pos 2147483647) c.ranges.h (sfits_lit tt) c.if-h-eq2147483647.true)
+returns-then-h-eq-MOST c = rw (bits_inj w32 c.args.h (pos 2147483647) c.ranges.h (sfits_lit tt) c.if-h-eq-MOST.true)
 
-pub returns-then-h-eqminus2147483647 : goal.returns-then-h-eqminus2147483647
+pub returns-then-h-eq-LEAST : goal.returns-then-h-eq-LEAST
 unfolding no_next
-returns-then-h-eqminus2147483647 c = rw (bits_inj w32 c.args.h (negsuc 2147483646) c.ranges.h (sfits_lit tt) c.if-h-eqminus2147483647.true)
+returns-then-h-eq-LEAST c = rw (bits_inj w32 c.args.h (negsuc 2147483646) c.ranges.h (sfits_lit tt) c.if-h-eq-LEAST.true)
 
 -- past both refusals
-module _ (c : goal.Else-h-eqminus2147483647) where
+module _ (c : goal.Else-h-eq-LEAST) where
   abbrev h : ℤ
   h = c.args.h
 
@@ -31,10 +31,10 @@ module _ (c : goal.Else-h-eqminus2147483647) where
   f = c.ranges.h
 
   top : h ≡ pos 2147483647 → ⊥
-  top e = c.if-h-eq2147483647.false (ap (of_z w32) e)
+  top e = c.if-h-eq-MOST.false (ap (of_z w32) e)
 
   low : h ≡ negsuc 2147483646 → ⊥
-  low e = c.if-h-eqminus2147483647.false (ap (of_z w32) e)
+  low e = c.if-h-eq-LEAST.false (ap (of_z w32) e)
 
   up_fits : SFits w32 (h +ℤ pos 1)
   up_fits = one_more h f top

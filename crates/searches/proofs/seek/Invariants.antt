@@ -8,7 +8,7 @@ use Rattle.searches.proofs.seek.Given as goal
 abbrev pub invariant-fan : goal.invariant-fan
 invariant-fan l =
     (halfedge_number l.at < l.halfedges)
-    × (seek l.halfedges (vertex_number l.v) (halfedge_number l.home) l.rows l.left (halfedge_number l.at) ≡ seek l.halfedges (vertex_number l.v) (halfedge_number l.home) l.rows l.halfedges (halfedge_number l.initial.at))
+    × (seek l.halfedges (vertex_number l.v) (halfedge_number l.fn.home) l.rows l.left (halfedge_number l.at) ≡ seek l.halfedges (vertex_number l.v) (halfedge_number l.fn.home) l.rows l.halfedges (halfedge_number l.initial.at))
 
 abbrev pub decreases-fan : goal.decreases-fan
 decreases-fan l = l.left
