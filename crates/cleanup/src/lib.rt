@@ -14,7 +14,7 @@ ghost use Rattle.cleanup.specs.Cleanup.{cleanup_said, split_run, clean_at, clean
 
 use growth::{Grown, Limits};
 use net::Counts;
-use numbers::{Halfedge, NamedHalfedge};
+use numbers::Halfedge;
 use splitcleared::Split;
 use steps::{How, Run};
 
@@ -135,8 +135,8 @@ pub fn cleanup_topology(
         return CleanupTopology::ShortBuffer;
     }
     match soundness::first_out(halfedges, counts.halfedges, counts.vertices) {
-        NamedHalfedge::At(h) => CleanupTopology::Unsound(h),
-        NamedHalfedge::Nothing => clean_at(
+        Some(h) => CleanupTopology::Unsound(h),
+        None => clean_at(
             halfedges,
             positions,
             normals,

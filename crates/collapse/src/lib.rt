@@ -16,7 +16,7 @@ ghost use Rattle.collapse.specs.CollapseEdge.{collapse_edge_said, run_said, left
 use collapsing::Tried;
 use judging::{Judged, Tolerance};
 use net::Counts;
-use numbers::{Halfedge, NamedHalfedge};
+use numbers::Halfedge;
 use steps::{How, Run};
 
 // What collapse_edge answers: on Done the vertices in use afterwards, on Long the squared length and the limit.
@@ -144,7 +144,7 @@ fn collapse_settled(
         vertices,
         run,
     );
-    stretches::zero_u32(list, 0, room);
+    stretches::fill(list, 0, 0, room);
     answer(run)
 }
 
@@ -166,7 +166,7 @@ fn collapse_named(
     requires { (InUse halfedges rows.old × (vertices ≤ vertex_capacity_over positions.old)) × ((props ≡ true → halfedges ≤ 3 * lent_triples references.now) × (((halfedges ≤ lent_halfedges spare_halfedges.old) × (vertices ≤ lent_triples spare_positions.old)) × ((halfedges ≤ room) × (room ≤ length list.old)))) }
     ensures { left (collapse_edge_said result) rows.new positions.new spare_halfedges.new spare_positions.new list.new ≡ collapse_edge_named halfedges vertices room props references.now tolerance rows.old positions.old spare_halfedges.old spare_positions.old list.old (names halfedge halfedges) }
 {
-    let NamedHalfedge::At(e) = numbers::halfedge_given(halfedge, halfedges) else {
+    let Some(e) = numbers::halfedge_given(halfedge, halfedges) else {
         return CollapseEdge::Number;
     };
     match bar(rows, positions, halfedges, vertices, tolerance, e) {
@@ -229,8 +229,8 @@ pub fn collapse_edge(
         epsilon: epsilon,
     };
     match soundness::first_out(halfedges, counts.halfedges, counts.vertices) {
-        NamedHalfedge::At(h) => CollapseEdge::Unsound(h),
-        NamedHalfedge::Nothing => collapse_named(
+        Some(h) => CollapseEdge::Unsound(h),
+        None => collapse_named(
             halfedges,
             positions,
             references,

@@ -8,7 +8,7 @@ ghost use Rattle.steps.specs.Steps.{InUse};
 ghost use Rattle.collapsetri.specs.CollapseTri.{collapse_named, collapse_tri, collapse_said};
 
 use net::Counts;
-use numbers::{Halfedge, NamedHalfedge};
+use numbers::Halfedge;
 use soundness::Checked;
 
 // What collapse_tri answers.
@@ -26,7 +26,7 @@ fn collapse_named(rows: &mut [i32], halfedges: usize, halfedge: i32) -> Collapse
     requires { InUse halfedges rows.old }
     ensures { (collapse_said result, rows.new) ≡ collapse_named halfedges rows.old (names halfedge halfedges) }
 {
-    let NamedHalfedge::At(e) = numbers::halfedge_given(halfedge, halfedges) else {
+    let Some(e) = numbers::halfedge_given(halfedge, halfedges) else {
         return CollapseTri::Number;
     };
     if !edgetests::is_paired(rows, e) {

@@ -14,7 +14,7 @@ ghost use Rattle.spinning.specs.Spin.{Around, spun_to};
 ghost use Rattle.collapsing.specs.Collapse.{close, about, with_list, short_at, tried, TriedWithin, ran, collapse_at};
 
 use judging::{Judged, Tolerance};
-use numbers::{Halfedge, NamedHalfedge, Vertex};
+use numbers::{Halfedge, Vertex};
 use rings::Ring;
 use spinning::{Ends, Last};
 use steps::Run;
@@ -111,10 +111,10 @@ fn short_step(
 {
     let e = ends.edge;
     let p = ends.partner;
-    let NamedHalfedge::At(first) = walks::onward(rows, ends.halfedges, p) else {
+    let Some(first) = walks::onward(rows, ends.halfedges, p) else {
         return steps::stopped(run);
     };
-    let NamedHalfedge::At(from) = walks::onward(rows, ends.halfedges, e) else {
+    let Some(from) = walks::onward(rows, ends.halfedges, e) else {
         return steps::stopped(run);
     };
     listed_about(rows, positions, references, list, ends, run, v, first, from)

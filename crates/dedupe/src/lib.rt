@@ -9,7 +9,7 @@ ghost use Rattle.dedupe.specs.Dedupe.{stands, at_first, copy_end, second, at_sec
 
 use growth::{Grown, Limits};
 use inserting::Moved;
-use numbers::{Halfedge, NamedHalfedge, NamedVertex, Vertex};
+use numbers::{Halfedge, Vertex};
 use searches::Sought;
 
 // The search about the end, from c on: what is inserted where it meets another half-edge from the start s.
@@ -57,7 +57,7 @@ fn copy_end(
 {
     let grown = moved.grown;
     let place = moved.place;
-    if place.number() == e.number() {
+    if place == e {
         return growth::copy_round(rows, positions, limits, grown, v, place.next());
     }
     grown
@@ -100,10 +100,10 @@ fn second(
     if steps::refused(run) {
         return grown;
     }
-    let NamedHalfedge::At(p) = rows::halfedges::pair_of(rows, e, used) else {
+    let Some(p) = rows::halfedges::pair_of(rows, e, used) else {
         return growth::halt(grown);
     };
-    let NamedHalfedge::At(c) = walks::onward(rows, used, p) else {
+    let Some(c) = walks::onward(rows, used, p) else {
         return growth::halt(grown);
     };
     about_start(rows, positions, limits, grown, v, c, p)
@@ -151,13 +151,13 @@ pub fn dedupe_step(
         return grown;
     }
     let vertices = run.vertices;
-    let NamedVertex::At(s) = rows::halfedges::start_of(rows, e, vertices) else {
+    let Some(s) = rows::halfedges::start_of(rows, e, vertices) else {
         return growth::halt(grown);
     };
-    let NamedVertex::At(v) = rows::halfedges::end_of(rows, e, vertices) else {
+    let Some(v) = rows::halfedges::end_of(rows, e, vertices) else {
         return growth::halt(grown);
     };
-    let NamedHalfedge::At(c) = walks::onward(rows, used, e) else {
+    let Some(c) = walks::onward(rows, used, e) else {
         return growth::halt(grown);
     };
     dedupe_from(

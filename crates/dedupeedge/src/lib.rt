@@ -12,7 +12,7 @@ ghost use Rattle.dedupeedge.specs.DedupeEdge.{dedupe_said, left, dedupe_edge_at,
 
 use growth::{Grown, Limits};
 use net::Counts;
-use numbers::{Halfedge, NamedHalfedge};
+use numbers::Halfedge;
 use steps::How;
 
 // What dedupe_edge answers: on Done the half-edges and vertices in use afterwards.
@@ -99,7 +99,7 @@ fn dedupe_named(
     requires { Fitting limits (begun halfedges vertices rows.old positions.old normals.old references.old) × ((halfedges ≤ lent_halfedges spare_halfedges.old) × (vertices ≤ lent_triples spare_positions.old)) }
     ensures { left (dedupe_said result) rows.new positions.new normals.new references.new spare_halfedges.new spare_positions.new ≡ dedupe_named limits halfedges vertices rows.old positions.old normals.old references.old spare_halfedges.old spare_positions.old (names halfedge halfedges) }
 {
-    let NamedHalfedge::At(e) = numbers::halfedge_given(halfedge, halfedges) else {
+    let Some(e) = numbers::halfedge_given(halfedge, halfedges) else {
         return DedupeEdge::Number;
     };
     if !edgetests::is_paired(rows, e) {
@@ -143,8 +143,8 @@ pub fn dedupe_edge(
     }
     let limits = settling::limits_of(counts, halfedges, positions, normals, references);
     match soundness::first_out(halfedges, counts.halfedges, counts.vertices) {
-        NamedHalfedge::At(h) => DedupeEdge::Unsound(h),
-        NamedHalfedge::Nothing => dedupe_named(
+        Some(h) => DedupeEdge::Unsound(h),
+        None => dedupe_named(
             halfedges,
             positions,
             normals,

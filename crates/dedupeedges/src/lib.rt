@@ -13,7 +13,7 @@ ghost use Rattle.dedupeedges.specs.DedupeEdges.{edges_said, left, Enough, lent_e
 
 use growth::{Grown, Limits};
 use net::Counts;
-use numbers::{Halfedge, NamedHalfedge};
+use numbers::Halfedge;
 use steps::How;
 
 // What dedupe_edges answers: on Done the half-edges and vertices in use afterwards.
@@ -75,8 +75,8 @@ pub fn rounds_settled(
         limits,
         grew,
     );
-    stretches::zero_u32(work, 0, long);
-    stretches::zero_u32(list, 0, limits.halfedges);
+    stretches::fill(work, 0, 0, long);
+    stretches::fill(list, 0, 0, limits.halfedges);
     grew
 }
 
@@ -168,8 +168,8 @@ pub fn dedupe_edges(
         return DedupeEdges::ShortBuffer;
     }
     match soundness::first_out(halfedges, counts.halfedges, counts.vertices) {
-        NamedHalfedge::At(h) => DedupeEdges::Unsound(h),
-        NamedHalfedge::Nothing => rounds_at(
+        Some(h) => DedupeEdges::Unsound(h),
+        None => rounds_at(
             halfedges,
             positions,
             normals,

@@ -10,7 +10,7 @@ ghost use Rattle.steps.specs.Steps.{InUse};
 ghost use Rattle.searches.specs.Duplicates.{fan, ends_alike, is_duplicate};
 ghost use Rattle.duplicates.specs.Scan.{turn_on, entries, push, push_all, picked, is_passed, mark_all, scan, scan_row, found};
 
-use numbers::{Halfedge, NamedHalfedge, NamedVertex};
+use numbers::Halfedge;
 
 // Where the walk from `home` goes on from c, with so many turns left.
 pub fn turn_on(
@@ -19,21 +19,19 @@ pub fn turn_on(
     home: Halfedge,
     left: usize,
     c: Halfedge,
-) -> NamedHalfedge
+) -> Option<Halfedge>
     requires { (halfedge_number c < halfedges) × InUse halfedges rows.now }
     ensures { halfedge_named result ≡ turn_on halfedges rows.now (halfedge_number home) left (halfedge_number c) }
 {
     if left == 0 {
-        return NamedHalfedge::Nothing;
+        return None;
     }
-    let NamedHalfedge::At(p) = rows::halfedges::pair_of(rows, c, halfedges) else {
-        return NamedHalfedge::Nothing;
-    };
+    let p = rows::halfedges::pair_of(rows, c, halfedges)?;
     let q = p.next();
-    if q.number() == home.number() {
-        return NamedHalfedge::Nothing;
+    if q == home {
+        return None;
     }
-    NamedHalfedge::At(q)
+    Some(q)
 }
 
 // The end of h is one of `vertices`.
@@ -42,8 +40,8 @@ fn ends_in(rows: &[i32], vertices: usize, h: Halfedge) -> bool
     ensures { result ≡ is_named (names (end_of rows.now (halfedge_number h)) vertices) }
 {
     match rows::halfedges::end_of(rows, h, vertices) {
-        NamedVertex::At(_) => true,
-        NamedVertex::Nothing => false,
+        Some(_) => true,
+        None => false,
     }
 }
 
@@ -68,7 +66,7 @@ fn is_duplicate(rows: &[i32], halfedges: usize, vertices: usize, i: Halfedge, c:
         if outranks(rows, vertices, d, c) {
             return true;
         }
-        let NamedHalfedge::At(q) = turn_on(rows, halfedges, i, left, d) else {
+        let Some(q) = turn_on(rows, halfedges, i, left, d) else {
             return false;
         };
         d = q;
@@ -110,7 +108,7 @@ fn push_fan(
     loop {
         let there = is_duplicate(rows, halfedges, vertices, i, c);
         n = push_if(list, capacity, n, there, c);
-        let NamedHalfedge::At(q) = turn_on(rows, halfedges, i, left, c) else {
+        let Some(q) = turn_on(rows, halfedges, i, left, c) else {
             return n;
         };
         c = q;
@@ -130,7 +128,7 @@ fn mark_fan(rows: &[i32], work: &mut [u32], halfedges: usize, i: Halfedge)
     loop {
         let k = c.number();
         work[k] = MARKED;
-        let NamedHalfedge::At(q) = turn_on(rows, halfedges, i, left, c) else {
+        let Some(q) = turn_on(rows, halfedges, i, left, c) else {
             return;
         };
         c = q;
@@ -203,6 +201,6 @@ pub fn list_duplicates(
     requires { InUse halfedges rows.now × ((halfedges ≤ capacity) × ((capacity ≤ length work.old) × (capacity ≤ length list.old))) }
     ensures { (entries list.new result ≡ found halfedges vertices capacity rows.now list.old) × (drop capacity work.new ≡ drop capacity work.old) }
 {
-    stretches::zero_u32(work, 0, halfedges);
+    stretches::fill(work, 0, 0, halfedges);
     scan_rows(rows, work, list, halfedges, vertices, capacity)
 }

@@ -12,7 +12,7 @@ ghost use Rattle.steps.specs.Steps.{InUse};
 ghost use Rattle.explain.specs.Explain.{Three, explain_said, triangle_clause, partner_clause, row_clause, explain_row};
 
 use net::Counts;
-use numbers::{Halfedge, NamedHalfedge};
+use numbers::Halfedge;
 
 pub mod answer;
 
@@ -38,8 +38,8 @@ fn points_back(rows: &[i32], halfedges: usize, p: Halfedge, h: Halfedge) -> bool
     ensures { result ≡ eq_z (pair_of rows.now (halfedge_number p)) (pos (halfedge_number h)) }
 {
     match rows::halfedges::pair_of(rows, p, halfedges) {
-        NamedHalfedge::At(q) => q.number() == h.number(),
-        NamedHalfedge::Nothing => false,
+        Some(q) => q == h,
+        None => false,
     }
 }
 
@@ -121,7 +121,7 @@ fn row_clause(
         }
         return ExplainRow::PartlyDead(j);
     }
-    let NamedHalfedge::At(p) = rows::halfedges::pair_of(rows, h, halfedges) else {
+    let Some(p) = rows::halfedges::pair_of(rows, h, halfedges) else {
         return ExplainRow::NoPartner;
     };
     partner_clause(rows, halfedges, vertices, h, j, k, p)
@@ -144,7 +144,7 @@ pub fn explain_row(
     ) {
         return ExplainRow::Shape;
     }
-    let NamedHalfedge::At(h) = numbers::halfedge_given(row, counts.halfedges) else {
+    let Some(h) = numbers::halfedge_given(row, counts.halfedges) else {
         return ExplainRow::Number;
     };
     let second = h.next();

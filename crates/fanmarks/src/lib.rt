@@ -9,7 +9,7 @@ ghost use Rattle.ownertests.specs.Tests.{all_below, met_or_back};
 ghost use Rattle.ownertests.specs.inner.Needs.{InUse, Back};
 ghost use Rattle.fanmarks.specs.inner.Marks.{Left, FanMarked, Stepped, Scanned, Owned};
 
-use numbers::{Halfedge, NamedHalfedge};
+use numbers::Halfedge;
 use ownertests::Eligible;
 
 const MET: u8 = 1;
@@ -26,7 +26,7 @@ fn mark_fan(rows: &[i32], work: &mut [u8], halfedges: usize, i: Halfedge) -> boo
     let mut c = i;
     let mut left = halfedges;
     while left > 0 {
-        let NamedHalfedge::At(turn) = ownertests::turned(rows, c, halfedges) else {
+        let Some(turn) = ownertests::turned(rows, c, halfedges) else {
             return false;
         };
         c = turn;

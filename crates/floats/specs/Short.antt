@@ -3,10 +3,11 @@ use Rattle.std.specs.Prelude.{Bool, cond, [], ℤ, Float}
 use Rattle.std.specs.Int.Signed.{lt_z}
 use Rattle.std.specs.Float.{binary64}
 use Rattle.std.specs.Float.Ieee.{mul, lt, of_bits}
+use Rattle.std.specs.Prelude.{⊤, Result}
+use Rattle.refused.specs.declared.Refusal.{Refusal}
+use Rattle.refused.specs.Refused.{plain_said}
 use Rattle.answers.specs.Answers.{Said, done, long}
 use Rattle.floats.specs.declared.Vec3.{Vec3}
-use Rattle.floats.specs.declared.Length.{Length}
-use Rattle.floats.specs.declared.Length.TheVariants.{Short, Long}
 use Rattle.floats.specs.Vectors.{minus3, dot3}
 
 -- −0 and NaN are not below 0
@@ -36,6 +37,5 @@ short_test from to end_vert first_new_vert tol epsilon =
     short_or_long (squared_length delta) limit
 
 -- what the code's answer says
-abbrev pub length_said : Length → Said
-length_said Short = done []
-length_said (Long length limit) = long length limit
+abbrev pub length_said : Result ⊤ Refusal → Said
+length_said = plain_said

@@ -7,6 +7,8 @@ ghost use Rattle.std.specs.Float.Ieee.{of_bits, to_bits};
 ghost use Rattle.floats.specs.Vectors.{minus3, dot3, minus2, dot2, vec3_of_bits};
 ghost use Rattle.floats.specs.Short.{tolerance_of, limit_of, squared_length, short_or_long, length_said, short_test};
 
+use refused::Refusal;
+
 #[derive(Clone, Copy)]
 pub struct Vec3 {
     pub x: f64,
@@ -18,14 +20,6 @@ pub struct Vec3 {
 pub struct Vec2 {
     pub x: f64,
     pub y: f64,
-}
-
-// What the short test finds.
-#[derive(Clone, Copy)]
-pub enum Length {
-    Short,
-    // The squared length and the limit.
-    Long(f64, f64),
 }
 
 impl Vec3 {
@@ -118,18 +112,18 @@ fn limit(end_vert: i32, first_new_vert: i32, tol: f64, epsilon: f64) -> f64
 }
 
 // A difference against the limit.
-fn measured(delta: Vec3, limit: f64) -> Length
+fn measured(delta: Vec3, limit: f64) -> Result<(), Refusal>
     ensures { length_said result ≡ short_or_long (squared_length delta) limit }
 {
     let length = delta.dot(delta);
     if length < limit {
-        Length::Short
+        Ok(())
     } else {
-        Length::Long(length, limit)
+        Err(Refusal::Long(length, limit))
     }
 }
 
-// Whether the edge between two positions is short.
+// Whether the edge between two positions is short; where it is not, its squared length and the limit.
 pub fn short_test(
     from: Vec3,
     to: Vec3,
@@ -137,7 +131,7 @@ pub fn short_test(
     first_new_vert: i32,
     tol: f64,
     epsilon: f64,
-) -> Length
+) -> Result<(), Refusal>
     ensures { length_said result ≡ short_test from to end_vert first_new_vert tol epsilon }
 {
     let tol = tolerance(tol, epsilon);

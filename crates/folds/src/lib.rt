@@ -9,7 +9,7 @@ ghost use Rattle.rows.specs.Halfedges.{lent_halfedges};
 ghost use Rattle.steps.specs.Steps.{middle, InUse, VerticesIn};
 ghost use Rattle.folds.specs.Folds.{fold_rows, beyond, lose, lose_folded, has_pair, outer_paired, join, gone_row, clear, take_out, fold_at, fold};
 
-use numbers::{Halfedge, NamedHalfedge, NamedVertex};
+use numbers::Halfedge;
 use rows::triples::Bits3;
 use steps::Run;
 
@@ -34,7 +34,7 @@ pub fn lose_step(rows: &[i32], positions: &mut [u64], run: Run, h: Halfedge) -> 
     if steps::refused(run) {
         return run;
     }
-    let NamedVertex::At(v) = rows::halfedges::start_of(rows, h, run.vertices) else {
+    let Some(v) = rows::halfedges::start_of(rows, h, run.vertices) else {
         return beyond(rows, run, h);
     };
     let nan = Bits3 {
@@ -52,8 +52,8 @@ fn is_pair(rows: &[i32], halfedges: usize, h: Halfedge, p: Halfedge) -> bool
     ensures { result ≡ has_pair halfedges rows.now (halfedge_number h) (halfedge_number p) }
 {
     match rows::halfedges::pair_of(rows, h, halfedges) {
-        NamedHalfedge::At(q) => q.number() == p.number(),
-        NamedHalfedge::Nothing => false,
+        Some(q) => q == p,
+        None => false,
     }
 }
 
@@ -108,16 +108,16 @@ fn join_step(
     if steps::refused(run) {
         return run;
     }
-    let NamedHalfedge::At(a) = rows::halfedges::pair_of(rows, e1, halfedges) else {
+    let Some(a) = rows::halfedges::pair_of(rows, e1, halfedges) else {
         return steps::stopped(run);
     };
-    let NamedHalfedge::At(b) = rows::halfedges::pair_of(rows, e2, halfedges) else {
+    let Some(b) = rows::halfedges::pair_of(rows, e2, halfedges) else {
         return steps::stopped(run);
     };
-    let NamedHalfedge::At(c) = rows::halfedges::pair_of(rows, f1, halfedges) else {
+    let Some(c) = rows::halfedges::pair_of(rows, f1, halfedges) else {
         return steps::stopped(run);
     };
-    let NamedHalfedge::At(d) = rows::halfedges::pair_of(rows, f2, halfedges) else {
+    let Some(d) = rows::halfedges::pair_of(rows, f2, halfedges) else {
         return steps::stopped(run);
     };
     join_rows(rows, halfedges, a, b, c, d);
@@ -214,7 +214,7 @@ pub fn fold_step(
     if !edgetests::is_paired(rows, e) | edgetests::is_unpaired(rows, e.next()) {
         return run;
     }
-    let NamedHalfedge::At(f) = rows::halfedges::pair_of(rows, e, halfedges) else {
+    let Some(f) = rows::halfedges::pair_of(rows, e, halfedges) else {
         return steps::stopped(run);
     };
     fold_at(rows, positions, halfedges, run, e, f)

@@ -11,7 +11,7 @@ ghost use Rattle.steps.specs.Steps.{InUse, VerticesIn};
 ghost use Rattle.formloop.specs.FormLoop.{left, form_at, form_named, form_loop, form_said, run_said};
 
 use net::Counts;
-use numbers::{Halfedge, NamedHalfedge};
+use numbers::Halfedge;
 use steps::{How, Run};
 
 // What form_loop answers: on Done the vertices in use afterwards.
@@ -92,10 +92,10 @@ fn form_named(
     requires { InUse halfedges rows.old × ((vertices ≤ vertex_capacity_over positions.old) × ((halfedges ≤ lent_halfedges spare_halfedges.old) × (vertices ≤ lent_triples spare_positions.old))) }
     ensures { left (form_said result) rows.new positions.new spare_halfedges.new spare_positions.new ≡ form_named halfedges vertices rows.old positions.old spare_halfedges.old spare_positions.old (names first halfedges) (names second halfedges) }
 {
-    let NamedHalfedge::At(a) = numbers::halfedge_given(first, halfedges) else {
+    let Some(a) = numbers::halfedge_given(first, halfedges) else {
         return FormLoop::Number;
     };
-    let NamedHalfedge::At(b) = numbers::halfedge_given(second, halfedges) else {
+    let Some(b) = numbers::halfedge_given(second, halfedges) else {
         return FormLoop::Number;
     };
     if !(edgetests::is_paired(rows, a) & edgetests::is_paired(rows, b)) {
@@ -139,8 +139,8 @@ pub fn form_loop(
         return FormLoop::ShortBuffer;
     }
     match soundness::first_out(halfedges, counts.halfedges, counts.vertices) {
-        NamedHalfedge::At(h) => FormLoop::Unsound(h),
-        NamedHalfedge::Nothing => form_named(
+        Some(h) => FormLoop::Unsound(h),
+        None => form_named(
             halfedges,
             positions,
             spare_halfedges,

@@ -9,7 +9,7 @@ ghost use Rattle.rows.specs.Triples.{lent_triples, triple, put_triple, reference
 ghost use Rattle.steps.specs.Steps.{Middle, middle, ended_run, Stopped, is_refused, InUse};
 ghost use Rattle.growth.specs.Growth.{growing, grown_to, Fits, FacesFit, VerticesFit, More, add, join, face, beside, relabel, copy_of, copy_round};
 
-use numbers::{Halfedge, NamedHalfedge, Vertex};
+use numbers::{Halfedge, Vertex};
 use steps::Run;
 
 // What there can be: half-edges and vertices, and whether triangles have normals, and references.
@@ -53,7 +53,7 @@ fn add_triangle(
         };
     }
     rows::halfedges::append_triangle(rows, used, a, b, h, e);
-    let NamedHalfedge::At(q) = rows::halfedges::pair_of(rows, h, used + 3) else {
+    let Some(q) = rows::halfedges::pair_of(rows, h, used + 3) else {
         return Grown {
             halfedges: used + 3,
             run: steps::stopped(run),
@@ -151,10 +151,10 @@ pub fn relabel_step(rows: &mut [i32], halfedges: usize, run: Run, v: Vertex, h: 
     if steps::refused(run) {
         return run;
     }
-    let NamedHalfedge::At(p) = rows::halfedges::pair_of(rows, h, halfedges) else {
+    let Some(p) = rows::halfedges::pair_of(rows, h, halfedges) else {
         return steps::stopped(run);
     };
-    let NamedHalfedge::At(q) = walks::move_on(rows, halfedges, v, p) else {
+    let Some(q) = walks::move_on(rows, halfedges, v, p) else {
         return steps::stopped(run);
     };
     walks::update_step(rows, halfedges, run, v, q, p)

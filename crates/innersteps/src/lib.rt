@@ -14,7 +14,7 @@ ghost use Rattle.innersteps.specs.Told.{counts_of, run_told, refused_by, collaps
 
 use collapsing::Tried;
 use judging::Tolerance;
-use numbers::{Halfedge, NamedHalfedge, NamedVertex};
+use numbers::Halfedge;
 use steps::{How, Run};
 
 #[repr(C)]
@@ -101,7 +101,7 @@ pub extern "C" fn innersteps_collapse(
     ) {
         return refused(1);
     }
-    let NamedHalfedge::At(e) = numbers::halfedge_given(halfedge, used.halfedges) else {
+    let Some(e) = numbers::halfedge_given(halfedge, used.halfedges) else {
         return refused(4);
     };
     told(triangles::collapse_step(halfedges, used.halfedges, steps::begun(used.vertices), e))
@@ -131,13 +131,13 @@ pub extern "C" fn innersteps_update(
     ) {
         return refused(1);
     }
-    let NamedVertex::At(v) = numbers::vertex_given(vertex, used.vertices) else {
+    let Some(v) = numbers::vertex_given(vertex, used.vertices) else {
         return refused(4);
     };
-    let NamedHalfedge::At(a) = numbers::halfedge_given(start, used.halfedges) else {
+    let Some(a) = numbers::halfedge_given(start, used.halfedges) else {
         return refused(4);
     };
-    let NamedHalfedge::At(b) = numbers::halfedge_given(end, used.halfedges) else {
+    let Some(b) = numbers::halfedge_given(end, used.halfedges) else {
         return refused(4);
     };
     told(walks::update_step(
@@ -172,7 +172,7 @@ pub extern "C" fn innersteps_fold(
     ) {
         return refused(1);
     }
-    let NamedHalfedge::At(e) = numbers::halfedge_given(halfedge, used.halfedges) else {
+    let Some(e) = numbers::halfedge_given(halfedge, used.halfedges) else {
         return refused(4);
     };
     told(folds::fold_step(
@@ -207,10 +207,10 @@ pub extern "C" fn innersteps_loop(
     ) {
         return refused(1);
     }
-    let NamedHalfedge::At(a) = numbers::halfedge_given(first, used.halfedges) else {
+    let Some(a) = numbers::halfedge_given(first, used.halfedges) else {
         return refused(4);
     };
-    let NamedHalfedge::At(b) = numbers::halfedge_given(second, used.halfedges) else {
+    let Some(b) = numbers::halfedge_given(second, used.halfedges) else {
         return refused(4);
     };
     let capacity = net::vertex_capacity(positions);
@@ -300,7 +300,7 @@ pub extern "C" fn innersteps_try(
     if !net::long_enough(list.len(), used.halfedges) {
         return refused(2);
     }
-    let NamedHalfedge::At(e) = numbers::halfedge_given(halfedge, used.halfedges) else {
+    let Some(e) = numbers::halfedge_given(halfedge, used.halfedges) else {
         return refused(4);
     };
     let props = (0 < used.num_prop) & (0 < used.references);

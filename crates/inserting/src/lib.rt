@@ -11,7 +11,7 @@ ghost use Rattle.growth.specs.Growth.{so_far, Fits, FacesFit, Fitting, More};
 ghost use Rattle.inserting.specs.Inserting.{stands, pair_new, insert_at, insert_from, insert};
 
 use growth::{Grown, Limits};
-use numbers::{Halfedge, NamedHalfedge, Vertex};
+use numbers::{Halfedge, Vertex};
 
 // The net so far, and where the search about the end then stands.
 #[derive(Clone, Copy)]
@@ -88,13 +88,13 @@ fn insert_from(
             place: c,
         };
     }
-    let NamedHalfedge::At(here) = walks::onward(rows, used, c) else {
+    let Some(here) = walks::onward(rows, used, c) else {
         return Moved {
             grown: growth::halt(grown),
             place: c,
         };
     };
-    let NamedHalfedge::At(other) = walks::onward(rows, used, e) else {
+    let Some(other) = walks::onward(rows, used, e) else {
         return Moved {
             grown: growth::halt(grown),
             place: c,

@@ -9,7 +9,7 @@ ghost use Rattle.steps.specs.Steps.{InUse, VerticesIn};
 ghost use Rattle.judging.specs.Judge.{vector, between, judged, judge};
 
 use floats::{Length, Vec3};
-use numbers::{Halfedge, NamedHalfedge, NamedVertex, Vertex};
+use numbers::{Halfedge, Vertex};
 
 // What short means: an edge that ends before first_new_vert is held against tol, another against epsilon.
 #[derive(Clone, Copy)]
@@ -66,13 +66,13 @@ pub fn judge(
     if !edgetests::is_paired(rows, e) {
         return Judged::Dead;
     }
-    let NamedHalfedge::At(p) = rows::halfedges::pair_of(rows, e, halfedges) else {
+    let Some(p) = rows::halfedges::pair_of(rows, e, halfedges) else {
         return Judged::Missing;
     };
-    let NamedVertex::At(u) = rows::halfedges::start_of(rows, e, vertices) else {
+    let Some(u) = rows::halfedges::start_of(rows, e, vertices) else {
         return Judged::Missing;
     };
-    let NamedVertex::At(v) = rows::halfedges::end_of(rows, e, vertices) else {
+    let Some(v) = rows::halfedges::end_of(rows, e, vertices) else {
         return Judged::Missing;
     };
     if !edgetests::is_paired(rows, p.next()) {

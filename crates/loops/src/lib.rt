@@ -8,7 +8,7 @@ ghost use Rattle.rows.specs.Halfedges.{start, end, lent_halfedges};
 ghost use Rattle.steps.specs.Steps.{middle, InUse, VerticesIn};
 ghost use Rattle.loops.specs.Loops.{across, append, copy, exchange, cross_at, cross, loop_at};
 
-use numbers::{Halfedge, NamedHalfedge, NamedVertex, Vertex};
+use numbers::{Halfedge, Vertex};
 use steps::Run;
 
 // Appends a copy of the position of v, where there is room.
@@ -33,7 +33,7 @@ fn copy_start(rows: &[i32], positions: &mut [u64], capacity: usize, run: Run, h:
     if steps::refused(run) {
         return run;
     }
-    let NamedVertex::At(v) = rows::halfedges::start_of(rows, h, run.vertices) else {
+    let Some(v) = rows::halfedges::start_of(rows, h, run.vertices) else {
         return steps::stopped(run);
     };
     append_copy(positions, capacity, run, v)
@@ -47,7 +47,7 @@ fn copy_end(rows: &[i32], positions: &mut [u64], capacity: usize, run: Run, h: H
     if steps::refused(run) {
         return run;
     }
-    let NamedVertex::At(v) = rows::halfedges::end_of(rows, h, run.vertices) else {
+    let Some(v) = rows::halfedges::end_of(rows, h, run.vertices) else {
         return steps::stopped(run);
     };
     append_copy(positions, capacity, run, v)
@@ -113,10 +113,10 @@ fn cross(
     if steps::refused(run) {
         return run;
     }
-    let NamedHalfedge::At(p) = rows::halfedges::pair_of(rows, a, halfedges) else {
+    let Some(p) = rows::halfedges::pair_of(rows, a, halfedges) else {
         return steps::stopped(run);
     };
-    let NamedHalfedge::At(q) = rows::halfedges::pair_of(rows, b, halfedges) else {
+    let Some(q) = rows::halfedges::pair_of(rows, b, halfedges) else {
         return steps::stopped(run);
     };
     cross_at(rows, positions, halfedges, run, v, w, a, b, p, q)

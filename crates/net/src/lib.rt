@@ -24,12 +24,6 @@ const MOST_NUM_PROP: usize = 32;
 
 const MOST_PROPERTIES: usize = 3_000_000;
 
-fn lesser(a: usize, b: usize) -> usize
-    ensures { result ≡ min a b }
-{
-    if a < b { a } else { b }
-}
-
 // References and normals limit the triangles only where some are in use.
 fn triangles_for(used: usize, lent: usize) -> usize
     ensures { result ≡ triangles_for used lent }
@@ -46,13 +40,10 @@ pub fn triangle_capacity(
 ) -> usize
     ensures { result ≡ triangle_capacity_over counts halfedges.now normals.now references.now }
 {
-    let by_halfedges = lesser(rows::halfedges::lent(halfedges) / 3, MOST_TRIANGLES);
-    let by_references = triangles_for(
-        counts.references,
-        rows::triples::lent_references(references),
-    );
+    let by_halfedges = (rows::halfedges::lent(halfedges) / 3).min(MOST_TRIANGLES);
+    let by_references = triangles_for(counts.references, rows::triples::lent(references));
     let by_normals = triangles_for(counts.normals, rows::triples::lent(normals));
-    lesser(by_halfedges, lesser(by_references, by_normals))
+    by_halfedges.min(by_references.min(by_normals))
 }
 
 // How many half-edges there can be: three for each triangle.
@@ -71,7 +62,7 @@ pub fn halfedge_capacity(
 pub fn vertex_capacity(positions: &[u64]) -> usize
     ensures { result ≡ vertex_capacity_over positions.now }
 {
-    lesser(rows::triples::lent(positions), MOST_VERTICES)
+    rows::triples::lent(positions).min(MOST_VERTICES)
 }
 
 // How many property rows are lent: a row with no number in it takes no room.
@@ -88,10 +79,7 @@ fn lent_properties(num_prop: usize, properties: &[u64]) -> usize
 pub fn property_capacity(counts: Counts, properties: &[u64]) -> usize
     ensures { result ≡ property_capacity_over counts properties.now }
 {
-    lesser(
-        lent_properties(counts.num_prop, properties),
-        MOST_PROPERTIES,
-    )
+    lent_properties(counts.num_prop, properties).min(MOST_PROPERTIES)
 }
 
 // References and normals have no row or one for each triangle.

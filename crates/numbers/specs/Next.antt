@@ -1,12 +1,8 @@
 -- next(h) is h+1, or h−2 where h+1 divides by 3; tri_of(h) is h, next(h), next(next(h)).
-use Rattle.std.specs.Prelude.{Bool, cond, ◌||◌, [], ◌∷◌, ℕ, ◌+◌, ◌-◌, ◌%◌, eqb, ℤ, pos, negsuc, ◌+ℤ◌, ◌-ℤ◌}
+use Rattle.std.specs.Prelude.{Bool, cond, ◌||◌, [], ◌∷◌, ℕ, ◌+◌, ◌-◌, ◌%◌, eqb, ℤ, pos, negsuc, ◌+ℤ◌, ◌-ℤ◌, Option, Some, None}
 use Rattle.std.specs.Int.Signed.{rem_z}
 use Rattle.answers.specs.Answers.{Said, whole, done, bad_number}
 use Rattle.laws.specs.Integers.{eq_z}
-use Rattle.numbers.specs.declared.Next.{Next}
-use Rattle.numbers.specs.declared.Next.TheVariants as N
-use Rattle.numbers.specs.declared.Tri.{Tri}
-use Rattle.numbers.specs.declared.Tri.TheVariants as T
 
 -- three for each of the 1,000,000 triangles that a net can have
 abbrev pub most_halfedges : ℕ
@@ -25,17 +21,17 @@ unfoldable pub no_next : ℤ → Bool
 no_next h = eq_z h (pos 2147483647) || eq_z h (negsuc 2147483646)
 
 -- the entry next_halfedge: what it says, and what is right
-abbrev pub next_said : Next → Said
-next_said (N.To n) = done (whole n ∷ [])
-next_said N.Number = bad_number
+abbrev pub next_said : Option ℤ → Said
+next_said (Some n) = done (whole n ∷ [])
+next_said None = bad_number
 
 abbrev pub next_answer : ℤ → Said
 next_answer h = cond (no_next h) bad_number (done (whole (next_z h) ∷ []))
 
 -- the entry tri_of
-abbrev pub tri_said : Tri → Said
-tri_said (T.Of a b c) = done (whole a ∷ whole b ∷ whole c ∷ [])
-tri_said T.Number = bad_number
+abbrev pub tri_said : Option (ℤ × ℤ × ℤ) → Said
+tri_said (Some (a, b, c)) = done (whole a ∷ whole b ∷ whole c ∷ [])
+tri_said None = bad_number
 
 abbrev pub tri_answer : ℤ → Said
 tri_answer h =

@@ -1,16 +1,8 @@
 -- The number inside each number type, and what a signed number names among a count of rows.
-use Rattle.std.specs.Prelude.{Bool, true, false, cond, ℕ, ltb, ℤ, pos, negsuc}
+use Rattle.std.specs.Prelude.{Bool, true, false, cond, ℕ, ltb, ℤ, pos, negsuc, Option, Some, None}
 use Rattle.numbers.specs.declared.Halfedge.{Halfedge}
 use Rattle.numbers.specs.declared.Vertex.{Vertex}
 use Rattle.numbers.specs.declared.PropRow.{PropRow}
-use Rattle.numbers.specs.declared.Place.{Place}
-use Rattle.numbers.specs.declared.Place.TheVariants as P
-use Rattle.numbers.specs.declared.NamedHalfedge.{NamedHalfedge}
-use Rattle.numbers.specs.declared.NamedHalfedge.TheVariants as H
-use Rattle.numbers.specs.declared.NamedVertex.{NamedVertex}
-use Rattle.numbers.specs.declared.NamedVertex.TheVariants as X
-use Rattle.numbers.specs.declared.NamedPropRow.{NamedPropRow}
-use Rattle.numbers.specs.declared.NamedPropRow.TheVariants as R
 
 abbrev pub halfedge_number : Halfedge → ℕ
 halfedge_number h = h.0
@@ -41,18 +33,18 @@ abbrev pub named_or : {A : Type 0} → A → Named → (ℕ → A) → A
 named_or refusal (at n) f = f n
 named_or refusal nothing f = refusal
 
-abbrev pub placed : Place → Named
-placed (P.At i) = at i
-placed P.Nothing = nothing
+abbrev pub placed : Option ℕ → Named
+placed (Some i) = at i
+placed None = nothing
 
-abbrev pub halfedge_named : NamedHalfedge → Named
-halfedge_named (H.At h) = at (halfedge_number h)
-halfedge_named H.Nothing = nothing
+abbrev pub halfedge_named : Option Halfedge → Named
+halfedge_named (Some h) = at (halfedge_number h)
+halfedge_named None = nothing
 
-abbrev pub vertex_named : NamedVertex → Named
-vertex_named (X.At v) = at (vertex_number v)
-vertex_named X.Nothing = nothing
+abbrev pub vertex_named : Option Vertex → Named
+vertex_named (Some v) = at (vertex_number v)
+vertex_named None = nothing
 
-abbrev pub prop_row_named : NamedPropRow → Named
-prop_row_named (R.At p) = at (prop_row_number p)
-prop_row_named R.Nothing = nothing
+abbrev pub prop_row_named : Option PropRow → Named
+prop_row_named (Some p) = at (prop_row_number p)
+prop_row_named None = nothing

@@ -9,39 +9,14 @@ ghost use Rattle.std.specs.Int.Signed.{le_z};
 ghost use Rattle.numbers.specs.Numbers.{halfedge_number, vertex_number, prop_row_number, names, is_named, placed, halfedge_named, vertex_named, prop_row_named};
 ghost use Rattle.numbers.specs.Next.{next, next_answer, next_said, tri_answer, tri_said, most_halfedges};
 
-#[derive(Clone, Copy)]
+#[derive(Clone, Copy, PartialEq, Eq)]
 pub struct Halfedge(usize);
 
-#[derive(Clone, Copy)]
+#[derive(Clone, Copy, PartialEq, Eq)]
 pub struct Vertex(usize);
 
-#[derive(Clone, Copy)]
+#[derive(Clone, Copy, PartialEq, Eq)]
 pub struct PropRow(usize);
-
-// What a signed number names: a half-edge, or nothing that is there.
-#[derive(Clone, Copy)]
-pub enum NamedHalfedge {
-    At(Halfedge),
-    Nothing,
-}
-
-#[derive(Clone, Copy)]
-pub enum NamedVertex {
-    At(Vertex),
-    Nothing,
-}
-
-#[derive(Clone, Copy)]
-pub enum NamedPropRow {
-    At(PropRow),
-    Nothing,
-}
-
-#[derive(Clone, Copy)]
-enum Place {
-    At(usize),
-    Nothing,
-}
 
 // A signed number that is 0 or more.
 fn known(x: i32) -> usize
@@ -52,38 +27,28 @@ fn known(x: i32) -> usize
 }
 
 // A signed number as one of 0..limit.
-fn place_of(x: i32, limit: usize) -> Place
+fn place_of(x: i32, limit: usize) -> Option<usize>
     ensures { placed result ≡ names x limit }
 {
     if x < 0 {
-        return Place::Nothing;
+        return None;
     }
     let i = known(x);
-    if i < limit {
-        Place::At(i)
-    } else {
-        Place::Nothing
-    }
+    if i < limit { Some(i) } else { None }
 }
 
 // A row's number is one of 0..limit.
 pub fn is_within(x: i32, limit: usize) -> bool
     ensures { result ≡ is_named (names x limit) }
 {
-    match place_of(x, limit) {
-        Place::At(_) => true,
-        Place::Nothing => false,
-    }
+    place_of(x, limit).is_some()
 }
 
 // The number that a row holds, read as a half-edge.
-pub fn halfedge_read(x: i32, rows: usize) -> NamedHalfedge
+pub fn halfedge_read(x: i32, rows: usize) -> Option<Halfedge>
     ensures { halfedge_named result ≡ names x rows }
 {
-    match place_of(x, rows) {
-        Place::At(i) => NamedHalfedge::At(Halfedge(i)),
-        Place::Nothing => NamedHalfedge::Nothing,
-    }
+    Some(Halfedge(place_of(x, rows)?))
 }
 
 // A row's number that is 0 or more, as a half-edge.
@@ -111,37 +76,17 @@ pub fn is_below(x: i32, limit: usize) -> bool
 }
 
 // The number that a row holds, read as a vertex.
-pub fn vertex_read(x: i32, rows: usize) -> NamedVertex
+pub fn vertex_read(x: i32, rows: usize) -> Option<Vertex>
     ensures { vertex_named result ≡ names x rows }
 {
-    match place_of(x, rows) {
-        Place::At(i) => NamedVertex::At(Vertex(i)),
-        Place::Nothing => NamedVertex::Nothing,
-    }
+    Some(Vertex(place_of(x, rows)?))
 }
 
 // The number that a row holds, read as a property row.
-pub fn prop_row_read(x: i32, rows: usize) -> NamedPropRow
+pub fn prop_row_read(x: i32, rows: usize) -> Option<PropRow>
     ensures { prop_row_named result ≡ names x rows }
 {
-    match place_of(x, rows) {
-        Place::At(i) => NamedPropRow::At(PropRow(i)),
-        Place::Nothing => NamedPropRow::Nothing,
-    }
-}
-
-// A caller's number as a half-edge, tested.
-pub fn halfedge_given(x: i32, rows: usize) -> NamedHalfedge
-    ensures { halfedge_named result ≡ names x rows }
-{
-    halfedge_read(x, rows)
-}
-
-// A caller's number as a vertex, tested.
-pub fn vertex_given(x: i32, rows: usize) -> NamedVertex
-    ensures { vertex_named result ≡ names x rows }
-{
-    vertex_read(x, rows)
+    Some(PropRow(place_of(x, rows)?))
 }
 
 // A scan's counter as a half-edge.
@@ -202,51 +147,33 @@ impl PropRow {
     }
 }
 
-// What next_halfedge answers: the next number, or that there is none.
-#[derive(Clone, Copy)]
-pub enum Next {
-    To(i32),
-    Number,
-}
-
 // The two numbers that have no next, since it would be no i32: one more than MOST, two less than LEAST.
 const MOST: i32 = 2147483647;
 
 const LEAST: i32 = -2147483647;
 
-// The entry next_halfedge, on every i32.
-pub fn next_halfedge(h: i32) -> Next
+// The entry next_halfedge, on every i32: the next number, where there is one.
+pub fn next_halfedge(h: i32) -> Option<i32>
     ensures { next_said result ≡ next_answer h }
 {
     if h == MOST {
-        return Next::Number;
+        return None;
     }
     if h == LEAST {
-        return Next::Number;
+        return None;
     }
     let up = h + 1;
     if up % 3 == 0 {
-        return Next::To(h - 2);
+        return Some(h - 2);
     }
-    Next::To(up)
+    Some(up)
 }
 
-// What tri_of answers: the triangle's three numbers from the given one on, or that one of them has no next.
-#[derive(Clone, Copy)]
-pub enum Tri {
-    Of(i32, i32, i32),
-    Number,
-}
-
-// The entry tri_of, on every i32.
-pub fn tri_of(h: i32) -> Tri
+// The entry tri_of, on every i32: the triangle's three numbers from the given one on, where each has a next.
+pub fn tri_of(h: i32) -> Option<(i32, i32, i32)>
     ensures { tri_said result ≡ tri_answer h }
 {
-    let Next::To(second) = next_halfedge(h) else {
-        return Tri::Number;
-    };
-    let Next::To(third) = next_halfedge(second) else {
-        return Tri::Number;
-    };
-    Tri::Of(h, second, third)
+    let second = next_halfedge(h)?;
+    let third = next_halfedge(second)?;
+    Some((h, second, third))
 }

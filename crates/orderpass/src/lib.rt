@@ -12,7 +12,7 @@ ghost use Rattle.ordering.specs.inner.Needs.{FanOrder, RowOrder};
 ghost use Rattle.orderpass.specs.inner.Given.{Gives};
 
 use fanwalks::Behind;
-use numbers::{Halfedge, NamedVertex, Vertex};
+use numbers::{Halfedge, Vertex};
 
 // Copies counted and half-edges put into the order, or that a fan does not close.
 #[derive(Clone, Copy)]
@@ -61,8 +61,8 @@ fn order_row(
         return Ordered::To(added, steps);
     }
     match rows::halfedges::start_of(rows, i, vertices) {
-        NamedVertex::At(v) => order_fan(rows, work, halfedges, i, v, added, steps),
-        NamedVertex::Nothing => Ordered::To(added, steps),
+        Some(v) => order_fan(rows, work, halfedges, i, v, added, steps),
+        None => Ordered::To(added, steps),
     }
 }
 

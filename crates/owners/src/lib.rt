@@ -51,13 +51,13 @@ fn find_owners(
     requires { InUse halfedges rows.now × ((halfedges ≤ length work.old) × (halfedges ≤ length list.old)) }
     ensures { owners_outcome (owners_said result) work.new list.new ≡ scan eligible halfedges rows.now work.old list.old }
 {
-    stretches::zero_u8(work, 0, halfedges);
+    stretches::fill(work, 0, 0, halfedges);
     if !fanmarks::has_owners(rows, work, halfedges, eligible) {
-        stretches::zero_u8(work, 0, halfedges);
+        stretches::fill(work, 0, 0, halfedges);
         return Owners::NoOwners;
     }
     let count = list_owners(work, list, halfedges);
-    stretches::zero_u8(work, 0, halfedges);
+    stretches::fill(work, 0, 0, halfedges);
     Owners::Done(count)
 }
 

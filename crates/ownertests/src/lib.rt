@@ -9,7 +9,7 @@ ghost use Rattle.ownertests.specs.Tests.{is_back, points_back, turns_to};
 ghost use Rattle.ownertests.specs.Tests.{eligible as is_eligible};
 ghost use Rattle.ownertests.specs.inner.Needs.{InUse};
 
-use numbers::{Halfedge, NamedHalfedge};
+use numbers::Halfedge;
 
 // Which half-edges count: those with start ≥ 0, or with start and end ≥ 0.
 #[derive(Clone, Copy)]
@@ -35,8 +35,8 @@ fn is_pair(rows: &[i32], p: Halfedge, h: Halfedge, halfedges: usize) -> bool
     ensures { result ≡ is_back (halfedge_number h) (names (pair_of rows.now (halfedge_number p)) halfedges) }
 {
     match rows::halfedges::pair_of(rows, p, halfedges) {
-        NamedHalfedge::At(q) => q.number() == h.number(),
-        NamedHalfedge::Nothing => false,
+        Some(q) => q == h,
+        None => false,
     }
 }
 
@@ -46,21 +46,19 @@ pub fn is_paired_back(rows: &[i32], h: Halfedge, halfedges: usize) -> bool
     ensures { result ≡ points_back halfedges rows.now (halfedge_number h) }
 {
     match rows::halfedges::pair_of(rows, h, halfedges) {
-        NamedHalfedge::At(p) => is_pair(rows, p, h, halfedges),
-        NamedHalfedge::Nothing => !edgetests::is_paired(rows, h),
+        Some(p) => is_pair(rows, p, h, halfedges),
+        None => !edgetests::is_paired(rows, h),
     }
 }
 
 // Where h turns to, if its pair is there and points back.
-pub fn turned(rows: &[i32], h: Halfedge, halfedges: usize) -> NamedHalfedge
+pub fn turned(rows: &[i32], h: Halfedge, halfedges: usize) -> Option<Halfedge>
     requires { InUse halfedges rows.now × (halfedge_number h < halfedges) }
     ensures { halfedge_named result ≡ turns_to halfedges rows.now (halfedge_number h) }
 {
-    let NamedHalfedge::At(p) = rows::halfedges::pair_of(rows, h, halfedges) else {
-        return NamedHalfedge::Nothing;
-    };
+    let p = rows::halfedges::pair_of(rows, h, halfedges)?;
     if !is_pair(rows, p, h, halfedges) {
-        return NamedHalfedge::Nothing;
+        return None;
     }
-    NamedHalfedge::At(p.next())
+    Some(p.next())
 }

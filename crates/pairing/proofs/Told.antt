@@ -14,12 +14,13 @@ use Rattle.numbers.specs.Numbers.{Named, at, nothing, names}
 use Rattle.numbers.proofs.Names.{names_at}
 use Rattle.rows.specs.Halfedges.{Column, start, end, pair, prop, offset, pair_of, set_column, lent_halfedges}
 use Rattle.rows.proofs.Columns.{column_written, other_column, other_row, written_below, length_written}
+use Rattle.std.specs.Prelude.{⊤, Result}
+use Rattle.refused.specs.declared.Refusal.{Refusal}
+use Rattle.refused.proofs.Laws.{plain_agree}
 use Rattle.net.specs.declared.Counts.{Counts}
 use Rattle.net.specs.Net.{Net}
 use Rattle.net.specs.Counts.{Shaped, is_shaped}
 use Rattle.net.proofs.Shape.{shaped_true, within}
-use Rattle.pairing.specs.declared.PairUp.{PairUp}
-use Rattle.pairing.specs.declared.PairUp.TheVariants as P
 use Rattle.pairing.specs.Pairing.{paired, pair_named, pair_up, pair_said, PairedUp}
 
 not_pair : (c : Column) → (c ≡ pair → ⊥) → offset c ≡ offset pair → ⊥
@@ -71,18 +72,7 @@ module _ (c : Counts) (n : Net) (first second : ℤ) where
       go nothing (at b) m = refl
       go nothing nothing m = refl
 
-same : (a b : PairUp) → pair_said a ≡ pair_said b → a ≡ b
-same P.Done P.Done e = refl
-same P.Done P.Shape e = numbers_differ e (λ z. omega arith)
-same P.Done P.Number e = numbers_differ e (λ z. omega arith)
-same P.Shape P.Done e = numbers_differ e (λ z. omega arith)
-same P.Shape P.Shape e = refl
-same P.Shape P.Number e = numbers_differ e (λ z. omega arith)
-same P.Number P.Done e = numbers_differ e (λ z. omega arith)
-same P.Number P.Shape e = numbers_differ e (λ z. omega arith)
-same P.Number P.Number e = refl
-
-pub pair_agree : (c : Counts) (n : Net) (first second : ℤ) (a b : PairUp) (l m : List ℤ) →
+pub pair_agree : (c : Counts) (n : Net) (first second : ℤ) (a b : Result ⊤ Refusal) (l m : List ℤ) →
     (pair_said a, l) ≡ pair_up c n first second → (pair_said b, m) ≡ pair_up c n first second → (a ≡ b) × (l ≡ m)
 pair_agree c n first second a b l m p q =
-    (same a b (ap (λ (o : Said × List ℤ). o.0) (p ∙ sym q)), ap (λ (o : Said × List ℤ). o.1) (p ∙ sym q))
+    (plain_agree a b (ap (λ (o : Said × List ℤ). o.0) (p ∙ sym q)), ap (λ (o : Said × List ℤ). o.1) (p ∙ sym q))

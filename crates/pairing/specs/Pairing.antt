@@ -1,22 +1,20 @@
 -- Pairing: pair_up writes two pair fields, and refuses by 1 and 4 alone. The same number twice pairs a row with itself.
-use Rattle.std.specs.Prelude.{cond, List, [], ◌≡◌, ℕ, ◌<◌, ℤ, pos, length}
+use Rattle.std.specs.Prelude.{cond, ⊤, Result, List, [], ◌≡◌, ℕ, ◌<◌, ℤ, pos, length}
 use Rattle.answers.specs.Answers.{Said, done, shape, bad_number}
 use Rattle.numbers.specs.Numbers.{Named, names, named_or}
 use Rattle.rows.specs.Halfedges.{Column, pair, column, pair_of, set_column, rows_from}
+use Rattle.refused.specs.declared.Refusal.{Refusal}
+use Rattle.refused.specs.Refused.{plain_said}
 use Rattle.net.specs.declared.Counts.{Counts}
 use Rattle.net.specs.Net.{Net}
 use Rattle.net.specs.Counts.{is_shaped}
-use Rattle.pairing.specs.declared.PairUp.{PairUp}
-use Rattle.pairing.specs.declared.PairUp.TheVariants as P
 
 -- a's pair is b, then b's pair is a
 unfoldable pub paired : ℕ → ℕ → List ℤ → List ℤ
 paired a b rows = set_column pair b (pos a) (set_column pair a (pos b) rows)
 
-abbrev pub pair_said : PairUp → Said
-pair_said P.Done = done []
-pair_said P.Shape = shape
-pair_said P.Number = bad_number
+abbrev pub pair_said : Result ⊤ Refusal → Said
+pair_said = plain_said
 
 -- what is said, and the half-edge rows afterwards
 abbrev pub pair_named : List ℤ → Named → Named → Said × List ℤ

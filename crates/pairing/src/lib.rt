@@ -9,7 +9,8 @@ ghost use Rattle.net.specs.Net.{net};
 ghost use Rattle.pairing.specs.Pairing.{paired, pair_named, pair_up, pair_said};
 
 use net::Counts;
-use numbers::{Halfedge, NamedHalfedge};
+use numbers::Halfedge;
+use refused::Refusal;
 
 // Each of two half-edges becomes the other's partner.
 pub fn pair_rows(rows: &mut [i32], a: Halfedge, b: Halfedge)
@@ -20,27 +21,15 @@ pub fn pair_rows(rows: &mut [i32], a: Halfedge, b: Halfedge)
     rows::halfedges::set_pair(rows, b, a);
 }
 
-// What pair_up answers.
-#[derive(Clone, Copy)]
-pub enum PairUp {
-    Done,
-    Shape,
-    Number,
-}
-
 // Pairs the half-edges that two of a caller's numbers name.
-fn pair_given(rows: &mut [i32], halfedges: usize, first: i32, second: i32) -> PairUp
+fn pair_given(rows: &mut [i32], halfedges: usize, first: i32, second: i32) -> Result<(), Refusal>
     requires { (halfedges ≤ lent_halfedges rows.old) × (halfedges ≤ most_halfedges) }
     ensures { (pair_said result, rows.new) ≡ pair_named rows.old (names first halfedges) (names second halfedges) }
 {
-    let NamedHalfedge::At(a) = numbers::halfedge_given(first, halfedges) else {
-        return PairUp::Number;
-    };
-    let NamedHalfedge::At(b) = numbers::halfedge_given(second, halfedges) else {
-        return PairUp::Number;
-    };
+    let a = refused::halfedge_given(first, halfedges)?;
+    let b = refused::halfedge_given(second, halfedges)?;
     pair_rows(rows, a, b);
-    PairUp::Done
+    Ok(())
 }
 
 // The entry pair_up.
@@ -53,13 +42,13 @@ pub fn pair_up(
     properties: &[u64],
     first: i32,
     second: i32,
-) -> PairUp
+) -> Result<(), Refusal>
     ensures { (pair_said result, halfedges.new) ≡ pair_up counts (net halfedges.old positions.now normals.now references.now properties.now) first second }
 {
     if !net::shaped(
         counts, halfedges, positions, normals, references, properties,
     ) {
-        return PairUp::Shape;
+        return Err(Refusal::Shape);
     }
     pair_given(halfedges, counts.halfedges, first, second)
 }

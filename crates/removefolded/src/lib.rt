@@ -8,7 +8,7 @@ ghost use Rattle.steps.specs.Steps.{InUse, VerticesIn};
 ghost use Rattle.removefolded.specs.RemoveIfFolded.{fold_named, remove_if_folded, remove_said};
 
 use net::Counts;
-use numbers::{Halfedge, NamedHalfedge};
+use numbers::Halfedge;
 use soundness::Checked;
 
 // What remove_if_folded answers.
@@ -32,7 +32,7 @@ fn fold_named(
     requires { InUse halfedges rows.old × VerticesIn vertices positions.old }
     ensures { (remove_said result, (rows.new, positions.new)) ≡ fold_named halfedges vertices rows.old positions.old (names halfedge halfedges) }
 {
-    let NamedHalfedge::At(e) = numbers::halfedge_given(halfedge, halfedges) else {
+    let Some(e) = numbers::halfedge_given(halfedge, halfedges) else {
         return RemoveIfFolded::Number;
     };
     if !edgetests::is_paired(rows, e) {

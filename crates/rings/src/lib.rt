@@ -8,7 +8,7 @@ ghost use Rattle.rows.specs.Halfedges.{end_of};
 ghost use Rattle.steps.specs.Steps.{InUse};
 ghost use Rattle.rings.specs.Ring.{listing, AllIn, ListedIn, ring, hit, find};
 
-use numbers::{Halfedge, NamedHalfedge};
+use numbers::Halfedge;
 
 // How many neighbours were listed, or that the walk never ends.
 #[derive(Clone, Copy)]
@@ -38,22 +38,22 @@ pub fn list_ring(
     let mut at = from;
     let mut n = 0;
     while n < halfedges {
-        if at.number() == to.number() {
+        if at == to {
             return Ring::Listed(n);
         }
         let h = at.next();
         list[n] = h.number() as u32;
         n += 1;
         match rows::halfedges::pair_of(rows, h, halfedges) {
-            NamedHalfedge::At(p) => {
+            Some(p) => {
                 at = p;
             }
-            NamedHalfedge::Nothing => {
+            None => {
                 return Ring::Listed(n);
             }
         }
     }
-    if at.number() == to.number() {
+    if at == to {
         return Ring::Listed(n);
     }
     Ring::Endless

@@ -7,7 +7,7 @@ ghost use Rattle.numbers.specs.Numbers.{names, halfedge_number, vertex_number, h
 ghost use Rattle.rows.specs.Halfedges.{start_of, end_of, pair_of, none, is_empty, is_paired, is_started, is_ended, lent_halfedges};
 
 use crate::halfedges::{END, PAIR, START, WIDTH};
-use numbers::{Halfedge, NamedHalfedge, Vertex};
+use numbers::{Halfedge, Vertex};
 
 // The number at i is −1.
 fn none_at(s: &[i32], i: usize) -> bool
@@ -123,7 +123,7 @@ pub fn within(tri: &[i32], k: usize, vertices: usize) -> bool
 }
 
 // The corner's partner, among `halfedges`.
-pub fn partner(tri: &[i32], k: usize, halfedges: usize) -> NamedHalfedge
+pub fn partner(tri: &[i32], k: usize, halfedges: usize) -> Option<Halfedge>
     requires { k < lent_halfedges tri.now }
     ensures { halfedge_named result ≡ names (pair_of tri.now k) halfedges }
 {

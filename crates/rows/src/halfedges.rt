@@ -3,7 +3,7 @@ ghost use Rattle.std.specs.Prelude.{◌≡◌, true, ◌+◌, ◌<◌, ◌≤◌
 ghost use Rattle.numbers.specs.Numbers.{names, halfedge_number, vertex_number, prop_row_number, halfedge_named, vertex_named, prop_row_named};
 ghost use Rattle.rows.specs.Halfedges.{start_of, end_of, pair_of, prop_of, start, end, pair, prop, set_column, none, is_started, is_paired, empty_row, lent_halfedges, rows_from, append_row, append_triangle, over_rows, zero_rows, width};
 
-use numbers::{Halfedge, NamedHalfedge, NamedPropRow, NamedVertex, PropRow, Vertex};
+use numbers::{Halfedge, PropRow, Vertex};
 
 // How wide a row is, and where in it each column stands.
 pub const WIDTH: usize = 4;
@@ -17,7 +17,7 @@ pub const PAIR: usize = 2;
 pub const PROP: usize = 3;
 
 // The four numbers of a row as they stand there.
-#[derive(Clone, Copy)]
+#[derive(Clone, Copy, PartialEq, Eq)]
 pub struct Row {
     pub start: i32,
     pub end: i32,
@@ -33,7 +33,7 @@ pub fn lent(rows: &[i32]) -> usize
 }
 
 // The vertex where h starts, among `vertices`.
-pub fn start_of(rows: &[i32], h: Halfedge, vertices: usize) -> NamedVertex
+pub fn start_of(rows: &[i32], h: Halfedge, vertices: usize) -> Option<Vertex>
     requires { halfedge_number h < lent_halfedges rows.now }
     ensures { vertex_named result ≡ names (start_of rows.now (halfedge_number h)) vertices }
 {
@@ -42,7 +42,7 @@ pub fn start_of(rows: &[i32], h: Halfedge, vertices: usize) -> NamedVertex
 }
 
 // The vertex where h ends, among `vertices`.
-pub fn end_of(rows: &[i32], h: Halfedge, vertices: usize) -> NamedVertex
+pub fn end_of(rows: &[i32], h: Halfedge, vertices: usize) -> Option<Vertex>
     requires { halfedge_number h < lent_halfedges rows.now }
     ensures { vertex_named result ≡ names (end_of rows.now (halfedge_number h)) vertices }
 {
@@ -51,7 +51,7 @@ pub fn end_of(rows: &[i32], h: Halfedge, vertices: usize) -> NamedVertex
 }
 
 // The partner of h, among `halfedges`.
-pub fn pair_of(rows: &[i32], h: Halfedge, halfedges: usize) -> NamedHalfedge
+pub fn pair_of(rows: &[i32], h: Halfedge, halfedges: usize) -> Option<Halfedge>
     requires { halfedge_number h < lent_halfedges rows.now }
     ensures { halfedge_named result ≡ names (pair_of rows.now (halfedge_number h)) halfedges }
 {
@@ -78,7 +78,7 @@ pub fn pair_known(rows: &[i32], h: Halfedge) -> Halfedge
 }
 
 // The property row of h, among `properties`.
-pub fn prop_of(rows: &[i32], h: Halfedge, properties: usize) -> NamedPropRow
+pub fn prop_of(rows: &[i32], h: Halfedge, properties: usize) -> Option<PropRow>
     requires { halfedge_number h < lent_halfedges rows.now }
     ensures { prop_row_named result ≡ names (prop_of rows.now (halfedge_number h)) properties }
 {
@@ -178,14 +178,10 @@ fn put_front(free: &mut [i32], row: Row)
     requires { width ≤ length free.old }
     ensures { free.new ≡ append_row 0 row free.old }
 {
-    let start = row.start;
-    let end = row.end;
-    let pair = row.pair;
-    let prop = row.prop;
-    free[START] = start;
-    free[END] = end;
-    free[PAIR] = pair;
-    free[PROP] = prop;
+    free[START] = row.start;
+    free[END] = row.end;
+    free[PAIR] = row.pair;
+    free[PROP] = row.prop;
 }
 
 // Appends a row: the tail from the rows in use on is lent to be written.
@@ -225,7 +221,7 @@ pub fn append_triangle(
             start: from,
             end: to,
             pair: -1,
-            prop: prop,
+            prop,
         },
     );
     append(
@@ -235,7 +231,7 @@ pub fn append_triangle(
             start: to,
             end: outside,
             pair: -1,
-            prop: prop,
+            prop,
         },
     );
     append(
@@ -255,7 +251,7 @@ pub fn copy(from: &[i32], to: &mut [i32], n: usize)
     requires { (n ≤ lent_halfedges from.now) × (n ≤ lent_halfedges to.old) }
     ensures { to.new ≡ over_rows n from.now to.old }
 {
-    stretches::copy_i32(from, to, WIDTH * n);
+    stretches::copy(from, to, WIDTH * n);
 }
 
 // Zeroes rows a up to b.
@@ -263,5 +259,5 @@ pub fn zero(rows: &mut [i32], a: usize, b: usize)
     requires { (a ≤ b) × (b ≤ lent_halfedges rows.old) }
     ensures { rows.new ≡ zero_rows a b rows.old }
 {
-    stretches::zero_i32(rows, WIDTH * a, WIDTH * b);
+    stretches::fill(rows, 0, WIDTH * a, WIDTH * b);
 }

@@ -6,7 +6,7 @@ ghost use Rattle.rows.specs.Triples.{lent_triples, triple, put_triple, reference
 use numbers::Vertex;
 
 // The bit patterns of x, y and z.
-#[derive(Clone, Copy)]
+#[derive(Clone, Copy, PartialEq, Eq)]
 pub struct Bits3 {
     pub x: u64,
     pub y: u64,
@@ -14,22 +14,15 @@ pub struct Bits3 {
 }
 
 // A face reference: mesh_id, coplanar_id and face_id.
-#[derive(Clone, Copy)]
+#[derive(Clone, Copy, PartialEq, Eq)]
 pub struct Reference {
     pub mesh: i32,
     pub coplanar: i32,
     pub face: i32,
 }
 
-// How many rows of bit patterns are lent.
-pub fn lent(rows: &[u64]) -> usize
-    ensures { result ≡ lent_triples rows.now }
-{
-    rows.len() / 3
-}
-
-// How many references are lent.
-pub fn lent_references(rows: &[i32]) -> usize
+// How many rows are lent.
+pub fn lent<T>(rows: &[T]) -> usize
     ensures { result ≡ lent_triples rows.now }
 {
     rows.len() / 3
@@ -125,11 +118,7 @@ pub fn same_reference(rows: &[i32], t: usize, u: usize) -> bool
     requires { (t < lent_triples rows.now) × (u < lent_triples rows.now) }
     ensures { result ≡ same_face (reference rows.now t) (reference rows.now u) }
 {
-    let i = 3 * t;
-    let j = 3 * u;
-    crate::corners::same_at(rows, i, rows, j)
-        & crate::corners::same_at(rows, i + 1, rows, j + 1)
-        & crate::corners::same_at(rows, i + 2, rows, j + 2)
+    reference_of(rows, t) == reference_of(rows, u)
 }
 
 // Writes a reference at the front of the free rows.
@@ -137,12 +126,9 @@ fn put_reference_front(free: &mut [i32], r: Reference)
     requires { 3 ≤ length free.old }
     ensures { free.new ≡ put_reference 0 r free.old }
 {
-    let mesh = r.mesh;
-    let coplanar = r.coplanar;
-    let face = r.face;
-    free[0] = mesh;
-    free[1] = coplanar;
-    free[2] = face;
+    free[0] = r.mesh;
+    free[1] = r.coplanar;
+    free[2] = r.face;
 }
 
 // Appends a reference behind `used` triangles: the tail from there on is lent to be written.
@@ -159,7 +145,7 @@ pub fn copy(from: &[u64], to: &mut [u64], n: usize)
     requires { (n ≤ lent_triples from.now) × (n ≤ lent_triples to.old) }
     ensures { to.new ≡ over_triples n from.now to.old }
 {
-    stretches::copy_u64(from, to, 3 * n);
+    stretches::copy(from, to, 3 * n);
 }
 
 // Zeroes rows a up to b.
@@ -167,7 +153,7 @@ pub fn zero(rows: &mut [u64], a: usize, b: usize)
     requires { (a ≤ b) × (b ≤ lent_triples rows.old) }
     ensures { rows.new ≡ zero_triples a b rows.old }
 {
-    stretches::zero_u64(rows, 3 * a, 3 * b);
+    stretches::fill(rows, 0, 3 * a, 3 * b);
 }
 
 // Zeroes references a up to b.
@@ -175,5 +161,5 @@ pub fn zero_references(rows: &mut [i32], a: usize, b: usize)
     requires { (a ≤ b) × (b ≤ lent_triples rows.old) }
     ensures { rows.new ≡ zero_references a b rows.old }
 {
-    stretches::zero_i32(rows, 3 * a, 3 * b);
+    stretches::fill(rows, 0, 3 * a, 3 * b);
 }

@@ -7,7 +7,7 @@ ghost use Rattle.rows.specs.Halfedges.{lent_halfedges, pair_of};
 ghost use Rattle.rowtests.specs.Order.{empty3, paired3, apart3, mirrored_by, is_live, in_order, first_failing};
 ghost use Rattle.rowtests.specs.inner.Triangle.{TriangleAt};
 
-use numbers::{Halfedge, NamedHalfedge};
+use numbers::Halfedge;
 use rows::corners;
 
 // All three corners are empty.
@@ -42,8 +42,8 @@ fn has_partner(tri: &[i32], k: usize, rows: &[i32], h: Halfedge, halfedges: usiz
     ensures { result ≡ mirrored_by tri.now k rows.now (halfedge_number h) (names (pair_of tri.now k) halfedges) }
 {
     match corners::partner(tri, k, halfedges) {
-        NamedHalfedge::At(p) => corners::mirrored(tri, k, rows, h, p),
-        NamedHalfedge::Nothing => false,
+        Some(p) => corners::mirrored(tri, k, rows, h, p),
+        None => false,
     }
 }
 
@@ -72,24 +72,24 @@ pub fn check_triangle(
     t: usize,
     halfedges: usize,
     vertices: usize,
-) -> NamedHalfedge
+) -> Option<Halfedge>
     requires { TriangleAt halfedges rows.now tri.now t }
     ensures { halfedge_named result ≡ first_failing (in_order halfedges vertices rows.now) 3 t }
 {
     if is_dead(tri) {
-        return NamedHalfedge::Nothing;
+        return None;
     }
     let first = numbers::halfedge_counted(t);
     if !(is_paired(tri) & is_apart(tri) & is_live(tri, 0, 1, rows, first, halfedges, vertices)) {
-        return NamedHalfedge::At(first);
+        return Some(first);
     }
     let second = numbers::halfedge_counted(t + 1);
     if !is_live(tri, 1, 2, rows, second, halfedges, vertices) {
-        return NamedHalfedge::At(second);
+        return Some(second);
     }
     let third = numbers::halfedge_counted(t + 2);
     if !is_live(tri, 2, 0, rows, third, halfedges, vertices) {
-        return NamedHalfedge::At(third);
+        return Some(third);
     }
-    NamedHalfedge::Nothing
+    None
 }

@@ -8,7 +8,7 @@ ghost use Rattle.steps.specs.Steps.{InUse};
 ghost use Rattle.searches.specs.Seek.{place_of, seek};
 ghost use Rattle.searches.specs.Duplicates.{again, still};
 
-use numbers::{Halfedge, NamedHalfedge, Vertex};
+use numbers::{Halfedge, Vertex};
 
 // Where a search stops: at a half-edge that starts at the vertex sought; back round; or it cannot go on, since a row isn't there or the
 // walk never ends.
@@ -27,7 +27,7 @@ pub fn seek(rows: &[i32], halfedges: usize, v: Vertex, first: Halfedge, home: Ha
     let mut at = first;
     let mut left = halfedges;
     let place = 'fan: loop {
-        if at.number() == home.number() {
+        if at == home {
             break 'fan Sought::Round(at);
         }
         if rows::corners::starts_at(rows, at, v) {
@@ -37,11 +37,11 @@ pub fn seek(rows: &[i32], halfedges: usize, v: Vertex, first: Halfedge, home: Ha
             break 'fan Sought::Missing;
         }
         match rows::halfedges::pair_of(rows, at.next(), halfedges) {
-            NamedHalfedge::At(p) => {
+            Some(p) => {
                 at = p;
                 left -= 1;
             }
-            NamedHalfedge::Nothing => {
+            None => {
                 break 'fan Sought::Missing;
             }
         }
@@ -60,11 +60,11 @@ fn meets_again(rows: &[i32], halfedges: usize, e: Halfedge) -> bool
         if left == 0 {
             break 'fan false;
         }
-        let NamedHalfedge::At(p) = rows::halfedges::pair_of(rows, at, halfedges) else {
+        let Some(p) = rows::halfedges::pair_of(rows, at, halfedges) else {
             break 'fan false;
         };
         at = p.next();
-        if at.number() == e.number() {
+        if at == e {
             break 'fan false;
         }
         if edgetests::same_end(rows, at, e) {

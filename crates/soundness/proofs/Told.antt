@@ -12,14 +12,15 @@ use lib.IntN.{ℤ}
 use Rattle.answers.specs.Answers.{done, shape, unsound}
 use Rattle.answers.proofs.Laws.{numbers_differ, same_row}
 use Rattle.laws.proofs.Tests.{by_test}
-use Rattle.numbers.specs.Numbers.{Named, at, nothing, halfedge_number}
+use Rattle.numbers.specs.Numbers.{Named, at, nothing}
+use Rattle.std.specs.Prelude.{⊤, Result}
+use Rattle.refused.specs.declared.Refusal.{Refusal}
+use Rattle.refused.proofs.Laws.{plain_agree}
 use Rattle.net.specs.declared.Counts.{Counts}
 use Rattle.net.specs.Net.{Net}
 use Rattle.net.specs.Counts.{Shaped, is_shaped}
 use Rattle.net.specs.Sound.{InOrder, Sound, LeastOut}
 use Rattle.net.proofs.Shape.{shaped_yes, shaped_no}
-use Rattle.soundness.specs.declared.Checked.{Checked}
-use Rattle.soundness.specs.declared.Checked.TheVariants as C
 use Rattle.soundness.specs.Check.{check_said, check_net}
 use Rattle.rowtests.specs.Order.{in_order, least_out}
 use Rattle.rowtests.proofs.Right.{in_order_yes, out_of_order}
@@ -89,18 +90,5 @@ module _ (c : Counts) (n : Net) where
         λ w. s ∙ ap unsound (least_unique H N n.halfedges k h l w.1),
       ))
 
-same : (a b : Checked) → check_said a ≡ check_said b → a ≡ b
-same C.Sound C.Sound e = refl
-same C.Sound C.Shape e = numbers_differ e (λ z. omega arith)
-same C.Sound (C.Unsound h) e = numbers_differ e (λ z. omega arith)
-same C.Shape C.Sound e = numbers_differ e (λ z. omega arith)
-same C.Shape C.Shape e = refl
-same C.Shape (C.Unsound h) e = numbers_differ e (λ z. omega arith)
-same (C.Unsound g) C.Sound e = numbers_differ e (λ z. omega arith)
-same (C.Unsound g) C.Shape e = numbers_differ e (λ z. omega arith)
-same (C.Unsound g) (C.Unsound h) e =
-    let q = same_row (halfedge_number g) (halfedge_number h) e in
-    λ i. C.Unsound (record { 0 = q i })
-
-pub check_agree : (c : Counts) (n : Net) (a b : Checked) → check_said a ≡ check_net c n → check_said b ≡ check_net c n → a ≡ b
-check_agree c n a b p q = same a b (p ∙ sym q)
+pub check_agree : (c : Counts) (n : Net) (a b : Result ⊤ Refusal) → check_said a ≡ check_net c n → check_said b ≡ check_net c n → a ≡ b
+check_agree c n a b p q = plain_agree a b (p ∙ sym q)

@@ -1,18 +1,16 @@
 -- The entry check_net: answers 1, then 3 with the least row not in order, else 0.
-use Rattle.std.specs.Prelude.{cond, []}
+use Rattle.std.specs.Prelude.{cond, [], ⊤, Result}
 use Rattle.answers.specs.Answers.{Said, done, shape, unsound}
-use Rattle.numbers.specs.Numbers.{Named, at, nothing, halfedge_number}
+use Rattle.numbers.specs.Numbers.{Named, at, nothing}
+use Rattle.refused.specs.declared.Refusal.{Refusal}
+use Rattle.refused.specs.Refused.{plain_said}
 use Rattle.net.specs.declared.Counts.{Counts}
 use Rattle.net.specs.Net.{Net}
 use Rattle.net.specs.Counts.{is_shaped}
-use Rattle.soundness.specs.declared.Checked.{Checked}
-use Rattle.soundness.specs.declared.Checked.TheVariants as C
 use Rattle.rowtests.specs.Order.{least_out}
 
-abbrev pub check_said : Checked → Said
-check_said C.Sound = done []
-check_said C.Shape = shape
-check_said (C.Unsound h) = unsound (halfedge_number h)
+abbrev pub check_said : Result ⊤ Refusal → Said
+check_said = plain_said
 
 -- no row is out of order, or this is the least
 abbrev pub sound_or : Named → Said

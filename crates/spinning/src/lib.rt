@@ -10,7 +10,7 @@ ghost use Rattle.steps.specs.Steps.{middle, InUse, VerticesIn};
 ghost use Rattle.rings.specs.Ring.{AllIn};
 ghost use Rattle.spinning.specs.Spin.{turned, Ready, fixed, Around, turn_at, turn_once, tired, spun_to, spin};
 
-use numbers::{Halfedge, NamedHalfedge};
+use numbers::Halfedge;
 use rings::Hit;
 use steps::Run;
 
@@ -54,7 +54,7 @@ fn turn_at(
     requires { ((halfedge_number h < halfedges) × InUse halfedges rows.old) × (((run.vertices ≤ capacity) × VerticesIn capacity positions.old) × ((len ≤ length list.now) × AllIn halfedges list.now)) }
     ensures { (turned result rows.new positions.new ≡ turn_at halfedges capacity list.now len (halfedge_number h) (middle rows.old positions.old run)) × Ready halfedges capacity len result }
 {
-    let NamedHalfedge::At(q) = rows::halfedges::pair_of(rows, h, halfedges) else {
+    let Some(q) = rows::halfedges::pair_of(rows, h, halfedges) else {
         return Turn::Out(run);
     };
     let Hit::At(k) = rings::find(rows, list, halfedges, len, h) else {
@@ -108,7 +108,7 @@ fn tired(run: Run, to: Halfedge, at: Halfedge) -> Run
     if steps::refused(run) {
         return run;
     }
-    if at.number() == to.number() {
+    if at == to {
         return run;
     }
     steps::stopped(run)

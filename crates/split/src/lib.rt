@@ -9,7 +9,6 @@ ghost use Rattle.splitting.specs.Split.{split_outcome, split_sound, split_pinche
 ghost use Rattle.splitcleared.specs.Answer.{split_said};
 
 use net::Counts;
-use numbers::NamedHalfedge;
 use splitcleared::Split;
 
 // A net with nothing that calls for answer 1, 2 or 3.
@@ -25,9 +24,9 @@ pub fn split_sound(
     ensures { split_outcome (split_said result) rows.new positions.new work.new visit.new
         ≡ split_sound halfedges vertices rows.old positions.old work.old visit.old }
 {
-    stretches::zero_u32(work, 0, halfedges + vertices);
+    stretches::fill(work, 0, 0, halfedges + vertices);
     let said = splitcleared::split_cleared(rows, positions, work, visit, halfedges, vertices);
-    stretches::zero_u32(work, 0, halfedges + vertices);
+    stretches::fill(work, 0, 0, halfedges + vertices);
     said
 }
 
@@ -56,8 +55,8 @@ pub fn split_pinched_verts(
         return Split::ShortBuffer;
     }
     match soundness::first_out(halfedges, counts.halfedges, counts.vertices) {
-        NamedHalfedge::At(h) => Split::Unsound(h),
-        NamedHalfedge::Nothing => split_sound(
+        Some(h) => Split::Unsound(h),
+        None => split_sound(
             halfedges,
             positions,
             work,

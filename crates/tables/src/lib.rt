@@ -11,7 +11,7 @@ ghost use Rattle.searches.specs.Duplicates.{fan};
 ghost use Rattle.duplicates.specs.Scan.{entries, push_all, picked, scan, found};
 ghost use Rattle.tables.specs.Table.{table, lesser, enter, enter_all, is_over, clear_at, clear_all, is_done, table_row};
 
-use numbers::{Halfedge, NamedHalfedge, NamedVertex};
+use numbers::Halfedge;
 
 // Of what stands at a vertex and c, the less.
 fn lesser(x: usize, c: usize) -> usize
@@ -31,7 +31,7 @@ fn enter(rows: &[i32], work: &mut [u32], vertices: usize, twice: bool, c: Halfed
 {
     let k = c.number();
     workentries::see(work, k);
-    let NamedVertex::At(end) = rows::halfedges::end_of(rows, c, vertices) else {
+    let Some(end) = rows::halfedges::end_of(rows, c, vertices) else {
         return twice;
     };
     let v = end.number();
@@ -50,7 +50,7 @@ fn enter_fan(rows: &[i32], work: &mut [u32], halfedges: usize, vertices: usize, 
     let mut twice = false;
     loop {
         twice = enter(rows, work, vertices, twice, c);
-        let NamedHalfedge::At(q) = duplicates::turn_on(rows, halfedges, i, left, c) else {
+        let Some(q) = duplicates::turn_on(rows, halfedges, i, left, c) else {
             return twice;
         };
         c = q;
@@ -63,7 +63,7 @@ fn is_over(rows: &[i32], work: &[u32], vertices: usize, c: Halfedge) -> bool
     requires { ((halfedge_number c < lent_halfedges rows.now) × (halfedge_number c < most_halfedges)) × (vertices ≤ length work.now) }
     ensures { result ≡ is_over vertices rows.now work.now (halfedge_number c) }
 {
-    let NamedVertex::At(end) = rows::halfedges::end_of(rows, c, vertices) else {
+    let Some(end) = rows::halfedges::end_of(rows, c, vertices) else {
         return false;
     };
     workentries::entry_at(work, end.number()) != c.number() + 1
@@ -89,7 +89,7 @@ fn push_fan(
     loop {
         let there = is_over(rows, work, vertices, c);
         n = duplicates::push_if(list, capacity, n, there, c);
-        let NamedHalfedge::At(q) = duplicates::turn_on(rows, halfedges, i, left, c) else {
+        let Some(q) = duplicates::turn_on(rows, halfedges, i, left, c) else {
             return n;
         };
         c = q;
@@ -102,7 +102,7 @@ fn clear(rows: &[i32], work: &mut [u32], vertices: usize, c: Halfedge)
     requires { (halfedge_number c < lent_halfedges rows.now) × (vertices ≤ length work.old) }
     ensures { work.new ≡ clear_at (names (end_of rows.now (halfedge_number c)) vertices) work.old }
 {
-    let NamedVertex::At(end) = rows::halfedges::end_of(rows, c, vertices) else {
+    let Some(end) = rows::halfedges::end_of(rows, c, vertices) else {
         return;
     };
     workentries::place(work, end.number(), 0);
@@ -117,7 +117,7 @@ fn clear_fan(rows: &[i32], work: &mut [u32], halfedges: usize, vertices: usize, 
     let mut left = halfedges;
     loop {
         clear(rows, work, vertices, c);
-        let NamedHalfedge::At(q) = duplicates::turn_on(rows, halfedges, i, left, c) else {
+        let Some(q) = duplicates::turn_on(rows, halfedges, i, left, c) else {
             return;
         };
         c = q;
@@ -218,6 +218,6 @@ pub fn list_duplicates(
     if capacity < vertices {
         return duplicates::list_duplicates(rows, work, list, halfedges, vertices, capacity);
     }
-    stretches::zero_u32(work, 0, capacity);
+    stretches::fill(work, 0, 0, capacity);
     table_rows(rows, work, list, halfedges, vertices, capacity)
 }

@@ -6,7 +6,7 @@ ghost use Rattle.numbers.specs.Numbers.{halfedge_number};
 ghost use Rattle.steps.specs.Steps.{middle, InUse};
 ghost use Rattle.triangles.specs.Triangles.{emptied, collapsed, collapse};
 
-use numbers::{Halfedge, NamedHalfedge};
+use numbers::Halfedge;
 use steps::Run;
 
 // Empties the three rows of the triangle of e, and keeps their props.
@@ -42,10 +42,10 @@ pub fn collapse_step(rows: &mut [i32], halfedges: usize, run: Run, e: Halfedge) 
     if edgetests::is_unpaired(rows, second) {
         return run;
     }
-    let NamedHalfedge::At(a) = rows::halfedges::pair_of(rows, second, halfedges) else {
+    let Some(a) = rows::halfedges::pair_of(rows, second, halfedges) else {
         return steps::stopped(run);
     };
-    let NamedHalfedge::At(b) = rows::halfedges::pair_of(rows, second.next(), halfedges) else {
+    let Some(b) = rows::halfedges::pair_of(rows, second.next(), halfedges) else {
         return steps::stopped(run);
     };
     collapse_onto(rows, halfedges, e, a, b);

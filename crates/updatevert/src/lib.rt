@@ -9,7 +9,7 @@ ghost use Rattle.walks.specs.Walk.{reaches};
 ghost use Rattle.updatevert.specs.UpdateVert.{update_at, update_named, update_vert, update_said};
 
 use net::Counts;
-use numbers::{Halfedge, NamedHalfedge, NamedVertex, Vertex};
+use numbers::{Halfedge, Vertex};
 use soundness::Checked;
 
 // What update_vert answers.
@@ -53,13 +53,13 @@ fn update_named(
     requires { (vertices < 2 ^ 31) × InUse halfedges rows.old }
     ensures { (update_said result, rows.new) ≡ update_named halfedges rows.old (names vertex vertices) (names start halfedges) (names end halfedges) }
 {
-    let NamedVertex::At(v) = numbers::vertex_given(vertex, vertices) else {
+    let Some(v) = numbers::vertex_given(vertex, vertices) else {
         return UpdateVert::Number;
     };
-    let NamedHalfedge::At(a) = numbers::halfedge_given(start, halfedges) else {
+    let Some(a) = numbers::halfedge_given(start, halfedges) else {
         return UpdateVert::Number;
     };
-    let NamedHalfedge::At(b) = numbers::halfedge_given(end, halfedges) else {
+    let Some(b) = numbers::halfedge_given(end, halfedges) else {
         return UpdateVert::Number;
     };
     if !(edgetests::is_paired(rows, a) & edgetests::is_paired(rows, b)) {

@@ -7,11 +7,11 @@ ghost use Rattle.numbers.specs.Numbers.{halfedge_number, vertex_number, halfedge
 ghost use Rattle.steps.specs.Steps.{middle, InUse};
 ghost use Rattle.walks.specs.Walk.{onward, moved, reaches, walk_to, walked, update};
 
-use numbers::{Halfedge, NamedHalfedge, Vertex};
+use numbers::{Halfedge, Vertex};
 use steps::Run;
 
 // Where the walk goes from h: the partner of its next.
-pub fn onward(rows: &[i32], halfedges: usize, h: Halfedge) -> NamedHalfedge
+pub fn onward(rows: &[i32], halfedges: usize, h: Halfedge) -> Option<Halfedge>
     requires { (halfedge_number h < halfedges) × InUse halfedges rows.now }
     ensures { halfedge_named result ≡ onward halfedges rows.now (halfedge_number h) }
 {
@@ -26,24 +26,24 @@ pub fn reaches(rows: &[i32], halfedges: usize, start: Halfedge, end: Halfedge) -
     let mut at = start;
     let mut left = halfedges;
     while 0 < left {
-        if at.number() == end.number() {
+        if at == end {
             return true;
         }
         match onward(rows, halfedges, at) {
-            NamedHalfedge::At(h) => {
+            Some(h) => {
                 at = h;
             }
-            NamedHalfedge::Nothing => {
+            None => {
                 return false;
             }
         }
         left -= 1;
     }
-    at.number() == end.number()
+    at == end
 }
 
 // Sets the end of h and the start of its next, and says where the walk goes.
-pub fn move_on(rows: &mut [i32], halfedges: usize, v: Vertex, h: Halfedge) -> NamedHalfedge
+pub fn move_on(rows: &mut [i32], halfedges: usize, v: Vertex, h: Halfedge) -> Option<Halfedge>
     requires { (halfedge_number h < halfedges) × ((vertex_number v < 2 ^ 31) × InUse halfedges rows.old) }
     ensures { (halfedge_named result ≡ onward halfedges (moved (vertex_number v) (halfedge_number h) rows.old) (halfedge_number h)) × (rows.new ≡ moved (vertex_number v) (halfedge_number h) rows.old) }
 {
@@ -67,20 +67,20 @@ pub fn walk_to(
     let mut at = start;
     let mut left = halfedges;
     while 0 < left {
-        if at.number() == end.number() {
+        if at == end {
             return true;
         }
         match move_on(rows, halfedges, v, at) {
-            NamedHalfedge::At(h) => {
+            Some(h) => {
                 at = h;
             }
-            NamedHalfedge::Nothing => {
+            None => {
                 return false;
             }
         }
         left -= 1;
     }
-    at.number() == end.number()
+    at == end
 }
 
 // The step of update_vert: it stops where a partner isn't there, or where the walk never ends.

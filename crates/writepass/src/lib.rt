@@ -6,7 +6,6 @@ ghost use Rattle.std.specs.Prelude.{◌≡◌, ◌+◌, ◌<◌, ◌≤◌, leng
 ghost use Rattle.ordering.specs.inner.Order.{written, write_entry, write_order, list_order};
 ghost use Rattle.ordering.specs.inner.Needs.{EntryNeeds, OrderNeeds};
 
-use numbers::NamedVertex;
 use workentries::COPY;
 
 // Place k of the order, where x stands: its half-edge is listed; with the last of a fan that gets a copy, that fan is split. How many
@@ -30,7 +29,7 @@ fn write_entry(
         return added;
     }
     let i = numbers::halfedge_counted(c);
-    let NamedVertex::At(v) = rows::halfedges::start_of(rows, i, vertices) else {
+    let Some(v) = rows::halfedges::start_of(rows, i, vertices) else {
         return added;
     };
     fanwalks::copy_fan(rows, positions, halfedges, vertices + added, i, v);

@@ -34,26 +34,26 @@ pub clean_at-requires : goal.clean_at-requires
 clean_at-requires c =
     let s = c.args in
     let n = net s.halfedges.now s.positions.now s.normals.now s.references.now s.properties.now in
-    let o = sound_here s.counts n s.work.now s.list.now (sym c.shaped.ensures ∙ c.if-not-shaped.false) (sym c.first_out.ensures ∙ ap halfedge_named c.in-Nothing.is) in
+    let o = sound_here s.counts n s.work.now s.list.now (sym c.shaped.ensures ∙ c.if-not-shaped.false) (sym c.first_out.ensures ∙ ap halfedge_named c.in-None.is) in
     let t = and2 _ _ (sym c.enough.ensures ∙ c.if-not-enough.false) in
     let u = and2 _ _ t.0 in
     let v = and2 _ _ u.0 in
     ((sound_rows s.counts n o, rw c.limits_of-limits.ensures), ((rw c.limits_of-limits.ensures (begun_fits _ _ o.shaped)), record { halfedges_spared = leb-true _ _ v.0; positions_spared = leb-true _ _ v.1; capacity_long = omega arith; work_long = leb-true _ _ u.1; list_long = leb-true _ _ t.1 }))
 
-pub returns-in-At : goal.returns-in-At
+pub returns-in-Some : goal.returns-in-Some
 unfolding cleanup_topology
-returns-in-At c = rw (← c.shaped.ensures, c.if-not-shaped.false, ← (rw c.limits_of-limits.ensures at c.enough.ensures), c.if-not-enough.false, ← c.first_out.ensures, c.in-At.is)
+returns-in-Some c = rw (← c.shaped.ensures, c.if-not-shaped.false, ← (rw c.limits_of-limits.ensures at c.enough.ensures), c.if-not-enough.false, ← c.first_out.ensures, c.in-Some.is)
 
-pub returns-in-Nothing : goal.returns-in-Nothing
+pub returns-in-None : goal.returns-in-None
 unfolding cleanup_topology
-returns-in-Nothing c =
+returns-in-None c =
     let at_shaped = c.shaped in
     let at_if1 = c.if-not-shaped in
     let at_limits_of = c.limits_of-limits in
     let at_enough = c.enough in
     let at_if2 = c.if-not-enough in
     let at_first_out = c.first_out in
-    let at_enum_told = c.in-Nothing in
+    let at_enum_told = c.in-None in
     let at_clean_at = c.clean_at in
-    rw (← at_shaped.ensures, c.if-not-shaped.false, ← (rw at_limits_of.ensures at at_enough.ensures), c.if-not-enough.false, ← at_first_out.ensures, c.in-Nothing.is)
+    rw (← at_shaped.ensures, c.if-not-shaped.false, ← (rw at_limits_of.ensures at at_enough.ensures), c.if-not-enough.false, ← at_first_out.ensures, c.in-None.is)
     (rw at_limits_of.ensures at at_clean_at.ensures)

@@ -43,18 +43,18 @@ collapse_named-requires c =
       ),
     )
 
-pub returns-in-At : goal.returns-in-At
+pub returns-in-Some : goal.returns-in-Some
 unfolding collapse_edge
-returns-in-At c =
+returns-in-Some c =
     let t = rw (c.spare_fits.ensures, c.long_enough.ensures, c.halfedge_capacity-room.ensures) at c.if-not-spare_fits-long_enough.false in
-    rw (← c.shaped.ensures, c.if-not-shaped.false, t, ← c.first_out.ensures, c.in-At.is)
+    rw (← c.shaped.ensures, c.if-not-shaped.false, t, ← c.first_out.ensures, c.in-Some.is)
 
-pub returns-in-Nothing : goal.returns-in-Nothing
+pub returns-in-None : goal.returns-in-None
 unfolding collapse_edge
-returns-in-Nothing c =
+returns-in-None c =
     let t =
     rw (c.spare_fits.ensures, c.long_enough.ensures, c.halfedge_capacity-room.ensures) at
     c.if-not-spare_fits-long_enough.false in
     let named = rw (to_z-of_z c.ranges.halfedge, to_z-of_z c.ranges.first_new_vert, c.halfedge_capacity-room.ensures) at c.collapse_named.ensures in
     let sound = c.first_out.ensures in
-    rw (← c.shaped.ensures, c.if-not-shaped.false, t, ← sound, c.in-Nothing.is) named
+    rw (← c.shaped.ensures, c.if-not-shaped.false, t, ← sound, c.in-None.is) named

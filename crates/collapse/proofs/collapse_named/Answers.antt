@@ -15,31 +15,31 @@ pub bar-requires : goal.bar-requires
 bar-requires c =
     let s = c.args in
     let p = c.requires in
-    let b = names_below s.halfedge s.halfedges (sym (rw (to_z-of_z c.ranges.halfedge, c.in-At.is) at c.halfedge_given.ensures)) in
+    let b = names_below s.halfedge s.halfedges (sym (rw (to_z-of_z c.ranges.halfedge, c.in-Some.is) at c.halfedge_given.ensures)) in
     (b, (p.0.0, (omega (arith, p.0.1, capacity_lent s.positions.now), omega (arith, p.0.1, capacity_most s.positions.now))))
 
 pub collapse_settled-requires : goal.collapse_settled-requires
 collapse_settled-requires c =
     let s = c.args in
     let p = c.requires in
-    let b = names_below s.halfedge s.halfedges (sym (rw (to_z-of_z c.ranges.halfedge, c.in-At.is) at c.halfedge_given.ensures)) in
+    let b = names_below s.halfedge s.halfedges (sym (rw (to_z-of_z c.ranges.halfedge, c.in-Some.is) at c.halfedge_given.ensures)) in
     rw c.vertex_capacity-capacity.ensures ((b, p.0.0), ((p.0.1, (capacity_lent s.positions.now, capacity_most s.positions.now)), p.1))
 
 pub returns-in-Dead : goal.returns-in-Dead
 unfolding collapse_edge_named
 returns-in-Dead c =
-    let e = rw (to_z-of_z c.ranges.halfedge, c.in-At.is) at c.halfedge_given.ensures in
+    let e = rw (to_z-of_z c.ranges.halfedge, c.in-Some.is) at c.halfedge_given.ensures in
     rw (← e, ← (rw c.in-Dead.is at c.bar.ensures))
 
 pub returns-in-Long : goal.returns-in-Long
 unfolding collapse_edge_named
 returns-in-Long c =
-    let e = rw (to_z-of_z c.ranges.halfedge, c.in-At.is) at c.halfedge_given.ensures in
+    let e = rw (to_z-of_z c.ranges.halfedge, c.in-Some.is) at c.halfedge_given.ensures in
     rw (← e, ← (rw c.in-Long.is at c.bar.ensures))
 
-pub returns-in-Nothing : goal.returns-in-Nothing
+pub returns-in-None : goal.returns-in-None
 unfolding collapse_edge_named
-returns-in-Nothing c =
-    let e = rw (to_z-of_z c.ranges.halfedge, c.in-At.is) at c.halfedge_given.ensures in
-    let free = rw c.in-Nothing.is at c.bar.ensures in
+returns-in-None c =
+    let e = rw (to_z-of_z c.ranges.halfedge, c.in-Some.is) at c.halfedge_given.ensures in
+    let free = rw c.in-None.is at c.bar.ensures in
     rw (← e, ← free) (rw c.vertex_capacity-capacity.ensures at c.collapse_settled.ensures)

@@ -40,8 +40,8 @@ settle-requires c =
       c.copy-2.auto.to,
     )
 
-pub zero_u32-requires : goal.zero_u32-requires
-zero_u32-requires c = let p = c.requires in (omega arith, omega (arith, p.1.1.1.1.0, p.1.1.1.1.1, c.try_edge-run.auto.list))
+pub fill-requires : goal.fill-requires
+fill-requires c = let p = c.requires in (omega arith, omega (arith, p.1.1.1.1.0, p.1.1.1.1.1, c.try_edge-run.auto.list))
 
 pub returns : goal.returns
 unfolding collapse_settled
@@ -53,7 +53,7 @@ returns c =
     p.0.0 p.0.1.0 p.0.1.1.0 p.1.0.0 p.1.0.1.0 in
     let l : s.vertices ≤ lent_triples s.positions.now = omega (arith, p.1.0.0, p.1.0.1.0) in
     let beyond = drop_more s.halfedges s.room _ _ p.1.1.1.1.0 c.try_edge-run.ensures.1 ∙ sym (filled_beyond 0 s.room s.list.now) in
-    let z = filled_again 0 s.room s.list.now _ _ beyond c.zero_u32.ensures in
+    let z = filled_again 0 s.room s.list.now _ _ beyond c.fill.ensures in
     rw (
       c.answer.ensures,
       ← c.try_edge-run.ensures.0,

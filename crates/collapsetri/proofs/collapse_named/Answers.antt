@@ -15,19 +15,19 @@ returns-in_default c = rw (← (rw (to_z-of_z c.ranges.halfedge, c.in_default.is
 pub is_paired-requires : goal.is_paired-requires
 is_paired-requires c =
     let s = c.args in
-    let b = names_below s.halfedge s.halfedges (sym (rw (to_z-of_z c.ranges.halfedge, c.in-At.is) at c.halfedge_given.ensures)) in
+    let b = names_below s.halfedge s.halfedges (sym (rw (to_z-of_z c.ranges.halfedge, c.in-Some.is) at c.halfedge_given.ensures)) in
     omega (arith, b, c.requires.1.0)
 
 pub returns-then-not-is_paired : goal.returns-then-not-is_paired
 unfolding collapse_named
 returns-then-not-is_paired c =
     let t = rw c.is_paired.ensures at c.if-not-is_paired.true in
-    rw (← (rw (to_z-of_z c.ranges.halfedge, c.in-At.is) at c.halfedge_given.ensures), t)
+    rw (← (rw (to_z-of_z c.ranges.halfedge, c.in-Some.is) at c.halfedge_given.ensures), t)
 
 pub collapse_step-requires : goal.collapse_step-requires
 collapse_step-requires c =
     let s = c.args in
-    let b = names_below s.halfedge s.halfedges (sym (rw (to_z-of_z c.ranges.halfedge, c.in-At.is) at c.halfedge_given.ensures)) in
+    let b = names_below s.halfedge s.halfedges (sym (rw (to_z-of_z c.ranges.halfedge, c.in-Some.is) at c.halfedge_given.ensures)) in
     omega (arith, b, c.requires.0, c.requires.1.0, c.requires.1.1)
 
 pub returns : goal.returns
@@ -35,4 +35,4 @@ unfolding collapse_named
 returns c =
     let t = rw c.is_paired.ensures at c.if-not-is_paired.false in
     let r = ap (λ (m : Middle). m.halfedges) (c.collapse_step.ensures.0 []) in
-    rw (← (rw (to_z-of_z c.ranges.halfedge, c.in-At.is) at c.halfedge_given.ensures), t, ← c.begun.ensures, ← r)
+    rw (← (rw (to_z-of_z c.ranges.halfedge, c.in-Some.is) at c.halfedge_given.ensures), t, ← c.begun.ensures, ← r)

@@ -16,11 +16,11 @@ onward-requires-2 c = let a = c.requires.0 in (a.edge_in, (a.thirds, (c.requires
 
 pub returns-in_default-onward : goal.returns-in_default-onward
 unfolding short_at
-returns-in_default-onward c = (rw (← (rw c.in-At.is at c.onward.ensures), ← (rw c.in_default-onward.is at c.onward-2.ensures), c.stopped-in_default-onward.ensures), (rw c.stopped-in_default-onward.ensures c.requires.1.1.0, refl))
+returns-in_default-onward c = (rw (← (rw c.in-Some.is at c.onward.ensures), ← (rw c.in_default-onward.is at c.onward-2.ensures), c.stopped-in_default-onward.ensures), (rw c.stopped-in_default-onward.ensures c.requires.1.1.0, refl))
 
 pub listed_about-requires : goal.listed_about-requires
-listed_about-requires c = let s = c.args in let p = c.requires in let f = onward_below s.ends.halfedges s.rows.now s.ends.partner.0 (sym (rw c.in-At.is at c.onward.ensures)) in let g = onward_below s.ends.halfedges s.rows.now s.ends.edge.0 (sym (rw c.in-At-onward.is at c.onward-2.ensures)) in (p.0, (p.1.0, (p.1.1.0, ((f, g), p.1.1.1))))
+listed_about-requires c = let s = c.args in let p = c.requires in let f = onward_below s.ends.halfedges s.rows.now s.ends.partner.0 (sym (rw c.in-Some.is at c.onward.ensures)) in let g = onward_below s.ends.halfedges s.rows.now s.ends.edge.0 (sym (rw c.in-Some-onward.is at c.onward-2.ensures)) in (p.0, (p.1.0, (p.1.1.0, ((f, g), p.1.1.1))))
 
 pub returns : goal.returns
 unfolding short_at
-returns c = (rw (← (rw c.in-At.is at c.onward.ensures), ← (rw c.in-At-onward.is at c.onward-2.ensures)) c.listed_about.ensures.0, c.listed_about.ensures.1)
+returns c = (rw (← (rw c.in-Some.is at c.onward.ensures), ← (rw c.in-Some-onward.is at c.onward-2.ensures)) c.listed_about.ensures.0, c.listed_about.ensures.1)

@@ -17,7 +17,7 @@ returns-in_default c = (rw (← c.refused.ensures, c.if-refused.false, ← (rw c
 
 pub returns-in_default-end_of : goal.returns-in_default-end_of
 unfolding dedupe_at
-returns-in_default-end_of c = (rw (← c.refused.ensures, c.if-refused.false, ← (rw c.in-At.is at c.start_of.ensures), ← (rw c.in_default-end_of.is at c.end_of.ensures), c.halt-in_default-end_of.ensures), (more_halted _ c.halt-in_default-end_of.ensures, halted_fits _ c.halt-in_default-end_of.ensures _ _ _ _ _ c.requires.1))
+returns-in_default-end_of c = (rw (← c.refused.ensures, c.if-refused.false, ← (rw c.in-Some.is at c.start_of.ensures), ← (rw c.in_default-end_of.is at c.end_of.ensures), c.halt-in_default-end_of.ensures), (more_halted _ c.halt-in_default-end_of.ensures, halted_fits _ c.halt-in_default-end_of.ensures _ _ _ _ _ c.requires.1))
 
 pub returns-in_default-onward : goal.returns-in_default-onward
 unfolding dedupe_at
@@ -26,9 +26,9 @@ returns-in_default-onward c =
     let at_refused = c.refused in
     let at_if1 = c.if-refused in
     let at_start_of = c.start_of in
-    let at_s = c.in-At in
+    let at_s = c.in-Some in
     let at_end_of = c.end_of in
-    let at_v = c.in-At-end_of in
+    let at_v = c.in-Some-end_of in
     let at_onward = c.onward in
     let at_enum_told3 = c.in_default-onward in
     (rw (← at_refused.ensures, at_if1.false, ← (rw at_s.is at at_start_of.ensures), ← (rw at_v.is at at_end_of.ensures), ← (rw at_enum_told3.is at at_onward.ensures), c.halt-in_default-onward.ensures), (more_halted _ c.halt-in_default-onward.ensures, halted_fits _ c.halt-in_default-onward.ensures _ _ _ _ _ at_pre.1))
@@ -36,9 +36,9 @@ returns-in_default-onward c =
 pub dedupe_from-requires : goal.dedupe_from-requires
 dedupe_from-requires c =
     let a = c.args in
-    let s = names_below (start_of a.rows.now a.e.0) a.grown.run.vertices (sym (rw c.in-At.is at c.start_of.ensures)) in
-    let v = names_below (end_of a.rows.now a.e.0) a.grown.run.vertices (sym (rw c.in-At-end_of.is at c.end_of.ensures)) in
-    let b = onward_below a.grown.halfedges a.rows.now a.e.0 (sym (rw c.in-At-onward.is at c.onward.ensures)) in
+    let s = names_below (start_of a.rows.now a.e.0) a.grown.run.vertices (sym (rw c.in-Some.is at c.start_of.ensures)) in
+    let v = names_below (end_of a.rows.now a.e.0) a.grown.run.vertices (sym (rw c.in-Some-end_of.is at c.end_of.ensures)) in
+    let b = onward_below a.grown.halfedges a.rows.now a.e.0 (sym (rw c.in-Some-onward.is at c.onward.ensures)) in
     ((b, (c.requires.0, (s, v))), c.requires.1)
 
 pub returns : goal.returns
@@ -47,10 +47,10 @@ returns c =
     let at_refused = c.refused in
     let at_if1 = c.if-refused in
     let at_start_of = c.start_of in
-    let at_s = c.in-At in
+    let at_s = c.in-Some in
     let at_end_of = c.end_of in
-    let at_v = c.in-At-end_of in
+    let at_v = c.in-Some-end_of in
     let at_onward = c.onward in
-    let at_c = c.in-At-onward in
+    let at_c = c.in-Some-onward in
     let at_dedupe_from = c.dedupe_from in
     (rw (← at_refused.ensures, at_if1.false, ← (rw at_s.is at at_start_of.ensures), ← (rw at_v.is at at_end_of.ensures), ← (rw at_c.is at at_onward.ensures)) at_dedupe_from.ensures.0, at_dedupe_from.ensures.1)

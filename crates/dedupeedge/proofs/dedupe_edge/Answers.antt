@@ -27,13 +27,13 @@ dedupe_named-requires c =
     let t = and2 _ _ (sym c.spare_fits.ensures ∙ c.if-not-spare_fits.false) in
     rw c.limits_of-limits.ensures (begun_fits _ _ s, (leb-true _ _ t.0, leb-true _ _ t.1))
 
-pub returns-in-At : goal.returns-in-At
+pub returns-in-Some : goal.returns-in-Some
 unfolding dedupe_edge
-returns-in-At c = rw (← c.shaped.ensures, c.if-not-shaped.false, ← c.spare_fits.ensures, c.if-not-spare_fits.false, ← c.first_out.ensures, c.in-At.is)
+returns-in-Some c = rw (← c.shaped.ensures, c.if-not-shaped.false, ← c.spare_fits.ensures, c.if-not-spare_fits.false, ← c.first_out.ensures, c.in-Some.is)
 
-pub returns-in-Nothing : goal.returns-in-Nothing
+pub returns-in-None : goal.returns-in-None
 unfolding dedupe_edge
-returns-in-Nothing c =
+returns-in-None c =
     let at_fits = c.ranges in
     let at_shaped = c.shaped in
     let at_if1 = c.if-not-shaped in
@@ -41,7 +41,7 @@ returns-in-Nothing c =
     let at_if2 = c.if-not-spare_fits in
     let at_limits_of = c.limits_of-limits in
     let at_first_out = c.first_out in
-    let at_enum_told = c.in-Nothing in
+    let at_enum_told = c.in-None in
     let at_dedupe_named = c.dedupe_named in
-    rw (← at_shaped.ensures, c.if-not-shaped.false, ← at_spare_fits.ensures, c.if-not-spare_fits.false, ← at_first_out.ensures, c.in-Nothing.is)
+    rw (← at_shaped.ensures, c.if-not-shaped.false, ← at_spare_fits.ensures, c.if-not-spare_fits.false, ← at_first_out.ensures, c.in-None.is)
     (rw (to_z-of_z at_fits.halfedge, at_limits_of.ensures) at at_dedupe_named.ensures)

@@ -13,23 +13,23 @@ returns-in_default c = rw (← (rw (to_z-of_z c.ranges.halfedge, c.in_default.is
 pub is_paired-requires : goal.is_paired-requires
 is_paired-requires c =
     let s = c.args in
-    let b = names_below s.halfedge s.halfedges (sym (rw (to_z-of_z c.ranges.halfedge, c.in-At.is) at c.halfedge_given.ensures)) in
+    let b = names_below s.halfedge s.halfedges (sym (rw (to_z-of_z c.ranges.halfedge, c.in-Some.is) at c.halfedge_given.ensures)) in
     (omega (arith, b, c.requires.0.rows_fit.within_capacity, c.requires.0.rows_fit.lent))
 
 pub returns-then-not-is_paired : goal.returns-then-not-is_paired
 unfolding dedupe_named
 returns-then-not-is_paired c =
     let t = rw c.is_paired.ensures at c.if-not-is_paired.true in
-    rw (← (rw (to_z-of_z c.ranges.halfedge, c.in-At.is) at c.halfedge_given.ensures), t)
+    rw (← (rw (to_z-of_z c.ranges.halfedge, c.in-Some.is) at c.halfedge_given.ensures), t)
 
 pub dedupe_settled-requires : goal.dedupe_settled-requires
 dedupe_settled-requires c =
     let s = c.args in
-    let b = names_below s.halfedge s.halfedges (sym (rw (to_z-of_z c.ranges.halfedge, c.in-At.is) at c.halfedge_given.ensures)) in
+    let b = names_below s.halfedge s.halfedges (sym (rw (to_z-of_z c.ranges.halfedge, c.in-Some.is) at c.halfedge_given.ensures)) in
     (b, c.requires)
 
 pub returns : goal.returns
 unfolding dedupe_named
 returns c =
     let t = rw c.is_paired.ensures at c.if-not-is_paired.false in
-    rw (← (rw (to_z-of_z c.ranges.halfedge, c.in-At.is) at c.halfedge_given.ensures), t) c.dedupe_settled.ensures
+    rw (← (rw (to_z-of_z c.ranges.halfedge, c.in-Some.is) at c.halfedge_given.ensures), t) c.dedupe_settled.ensures

@@ -21,13 +21,13 @@ pub returns-in_default : goal.returns-in_default
 returns-in_default c = let s = c.args in dup_none s.halfedges s.rows.now s.i.0 s.vertices s.c.0 _ _ (sym c.outranks.ensures ∙ c.if-outranks.false) (sym c.turn_on.ensures ∙ ap halfedge_named c.in_default.is) ∙ c.loop-i.invariant.1
 
 pub overflow_sub-left : goal.overflow_sub-left
-overflow_sub-left c = let s = c.args in omega (arith, turns_some s.halfedges s.rows.now s.i.0 _ _ _ (sym c.turn_on.ensures ∙ ap halfedge_named c.in-At.is))
+overflow_sub-left c = let s = c.args in omega (arith, turns_some s.halfedges s.rows.now s.i.0 _ _ _ (sym c.turn_on.ensures ∙ ap halfedge_named c.in-Some.is))
 
 pub loop-i-smaller : goal.loop-i-smaller
-loop-i-smaller c = let s = c.args in omega (arith, turns_some s.halfedges s.rows.now s.i.0 _ _ _ (sym c.turn_on.ensures ∙ ap halfedge_named c.in-At.is))
+loop-i-smaller c = let s = c.args in omega (arith, turns_some s.halfedges s.rows.now s.i.0 _ _ _ (sym c.turn_on.ensures ∙ ap halfedge_named c.in-Some.is))
 
 pub loop-i-preserved : goal.loop-i-preserved
 loop-i-preserved c =
     let s = c.args in
-    let e = sym c.turn_on.ensures ∙ ap halfedge_named c.in-At.is in
+    let e = sym c.turn_on.ensures ∙ ap halfedge_named c.in-Some.is in
     (turns_below s.halfedges s.rows.now s.i.0 c.requires.1.1.0 _ _ _ e, dup_on s.halfedges s.rows.now s.i.0 s.vertices s.c.0 _ _ _ (sym c.outranks.ensures ∙ c.if-outranks.false) e ∙ c.loop-i.invariant.1)

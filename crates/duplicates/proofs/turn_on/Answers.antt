@@ -17,12 +17,12 @@ unfolding turn_on
 returns-in_default c = rw (ne_eqb _ 0 c.if-left-eq0.false, ← c.pair_of.ensures, c.in_default.is)
 
 pub next-q-requires : goal.next-q-requires
-next-q-requires c = omega (arith, names_below (pair_of c.args.rows.now c.args.c.0) c.args.halfedges (sym c.pair_of.ensures ∙ ap halfedge_named c.in-At.is), c.requires.1.1.1)
+next-q-requires c = omega (arith, names_below (pair_of c.args.rows.now c.args.c.0) c.args.halfedges (sym c.pair_of.ensures ∙ ap halfedge_named c.in-Some.is), c.requires.1.1.1)
 
 pub returns-then-number : goal.returns-then-number
 unfolding turn_on
-returns-then-number c = rw (ne_eqb _ 0 c.if-left-eq0.false, ← c.pair_of.ensures, c.in-At.is, eq-eqb _ _ (sym c.next-q.ensures ∙ sym c.number.ensures ∙ c.if-number.true ∙ c.number-2.ensures))
+returns-then-number c = rw (ne_eqb _ 0 c.if-left-eq0.false, ← c.pair_of.ensures, c.in-Some.is, eq-eqb _ _ (sym c.next-q.ensures ∙ sym c.number.ensures ∙ c.if-number.true ∙ c.number-2.ensures))
 
 pub returns : goal.returns
 unfolding turn_on
-returns c = rw (ne_eqb _ 0 c.if-left-eq0.false, ← c.pair_of.ensures, c.in-At.is, ne_eqb _ _ (λ h. c.if-number.false (c.number.ensures ∙ c.next-q.ensures ∙ h ∙ sym c.number-2.ensures)), c.next-q.ensures)
+returns c = rw (ne_eqb _ 0 c.if-left-eq0.false, ← c.pair_of.ensures, c.in-Some.is, ne_eqb _ _ (λ h. c.if-number.false (c.number.ensures ∙ c.next-q.ensures ∙ h ∙ sym c.number-2.ensures)), c.next-q.ensures)

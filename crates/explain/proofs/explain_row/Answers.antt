@@ -21,20 +21,20 @@ returns-in_default c =
 pub next-second-requires : goal.next-second-requires
 next-second-requires c =
     let w = within _ _ (shaped_yes _ _ (sym c.shaped.ensures ∙ c.if-not-shaped.false)) in
-    let b = names_below c.args.row c.args.counts.halfedges (sym (rw (to_z-of_z c.ranges.row, c.in-At.is) at c.halfedge_given.ensures)) in
+    let b = names_below c.args.row c.args.counts.halfedges (sym (rw (to_z-of_z c.ranges.row, c.in-Some.is) at c.halfedge_given.ensures)) in
     omega (arith, b, w.halfedges_most)
 
 pub next-requires : goal.next-requires
 next-requires c =
     let w = within _ _ (shaped_yes _ _ (sym c.shaped.ensures ∙ c.if-not-shaped.false)) in
-    let b = names_below c.args.row c.args.counts.halfedges (sym (rw (to_z-of_z c.ranges.row, c.in-At.is) at c.halfedge_given.ensures)) in
+    let b = names_below c.args.row c.args.counts.halfedges (sym (rw (to_z-of_z c.ranges.row, c.in-Some.is) at c.halfedge_given.ensures)) in
     let n = next_in _ c.args.counts.halfedges b w.halfedges_thirds in
     rw c.next-second.ensures (omega (arith, n, w.halfedges_most))
 
 pub row_clause-requires : goal.row_clause-requires
 row_clause-requires c =
     let w = within _ _ (shaped_yes _ _ (sym c.shaped.ensures ∙ c.if-not-shaped.false)) in
-    let b = names_below c.args.row c.args.counts.halfedges (sym (rw (to_z-of_z c.ranges.row, c.in-At.is) at c.halfedge_given.ensures)) in
+    let b = names_below c.args.row c.args.counts.halfedges (sym (rw (to_z-of_z c.ranges.row, c.in-Some.is) at c.halfedge_given.ensures)) in
     let n = next_in _ c.args.counts.halfedges b w.halfedges_thirds in
     let m = next_in _ c.args.counts.halfedges n w.halfedges_thirds in
     rw (c.next.ensures, c.next-second.ensures) (b, ((w.halfedges_thirds, (w.halfedges_lent, w.halfedges_most)), (omega (arith, b, w.halfedges_lent), (omega (arith, n, w.halfedges_lent), omega (arith, m, w.halfedges_lent)))))
@@ -42,4 +42,4 @@ row_clause-requires c =
 pub returns : goal.returns
 unfolding explain_row
 returns c =
-    rw (← c.shaped.ensures, c.if-not-shaped.false, ← (rw (to_z-of_z c.ranges.row, c.in-At.is) at c.halfedge_given.ensures)) (rw (c.next.ensures, c.next-second.ensures) at c.row_clause.ensures)
+    rw (← c.shaped.ensures, c.if-not-shaped.false, ← (rw (to_z-of_z c.ranges.row, c.in-Some.is) at c.halfedge_given.ensures)) (rw (c.next.ensures, c.next-second.ensures) at c.row_clause.ensures)

@@ -27,9 +27,9 @@ returns-in_default c =
 
 pub partner_clause-requires : goal.partner_clause-requires
 partner_clause-requires c =
-    ((c.requires.0, names_below (pair_of c.args.rows.now c.args.h.0) c.args.halfedges (sym (rw c.in-At.is at c.pair_of.ensures))), (c.requires.1.0, c.requires.1.1))
+    ((c.requires.0, names_below (pair_of c.args.rows.now c.args.h.0) c.args.halfedges (sym (rw c.in-Some.is at c.pair_of.ensures))), (c.requires.1.0, c.requires.1.1))
 
 pub returns : goal.returns
 unfolding row_clause
 returns c =
-    rw ((rw (c.is_empty-this.ensures, c.is_empty-next.ensures, c.is_empty.ensures) at c.if-this-next.false), (rw c.is_empty-this.ensures at c.if-this.false), ← (rw c.in-At.is at c.pair_of.ensures)) c.partner_clause.ensures
+    rw ((rw (c.is_empty-this.ensures, c.is_empty-next.ensures, c.is_empty.ensures) at c.if-this-next.false), (rw c.is_empty-this.ensures at c.if-this.false), ← (rw c.in-Some.is at c.pair_of.ensures)) c.partner_clause.ensures

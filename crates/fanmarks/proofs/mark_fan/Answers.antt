@@ -25,8 +25,8 @@ returns-in_default c =
 pub bounds-work-here : goal.bounds-work-here
 bounds-work-here c =
     let a = c.args in
-    let d = halfedge_number c.in-At.turn in
-    let T : Turned a.halfedges a.rows.now (halfedge_number c.loop-left.c) d = turns_yes a.halfedges a.rows.now (halfedge_number c.loop-left.c) c.requires.0 d (sym (rw c.in-At.is at c.turned.ensures)) in
+    let d = halfedge_number c.in-Some.turn in
+    let T : Turned a.halfedges a.rows.now (halfedge_number c.loop-left.c) d = turns_yes a.halfedges a.rows.now (halfedge_number c.loop-left.c) c.requires.0 d (sym (rw c.in-Some.is at c.turned.ensures)) in
     omega (arith, c.number-here.ensures, T.in_use, c.loop-left.invariant.leaving.kept, c.requires.1.1)
 
 pub shape_of-work-then-here-home : goal.shape_of-work-then-here-home
@@ -35,16 +35,16 @@ shape_of-work-then-here-home c = simp length-set c.loop-left.invariant.leaving.k
 pub returns-then-here-home : goal.returns-then-here-home
 returns-then-here-home c =
     let a = c.args in
-    let d = halfedge_number c.in-At.turn in
-    let T : Turned a.halfedges a.rows.now (halfedge_number c.loop-left.c) d = turns_yes a.halfedges a.rows.now (halfedge_number c.loop-left.c) c.requires.0 d (sym (rw c.in-At.is at c.turned.ensures)) in
+    let d = halfedge_number c.in-Some.turn in
+    let T : Turned a.halfedges a.rows.now (halfedge_number c.loop-left.c) d = turns_yes a.halfedges a.rows.now (halfedge_number c.loop-left.c) c.requires.0 d (sym (rw c.in-Some.is at c.turned.ensures)) in
     let l : c.number-home.result < c.args.halfedges = omega (arith, c.number-home.ensures, c.requires.1.0) in
     rw (← c.number-home.ensures, c.number-here.ensures) (walk_home l c.loop-left.invariant T (omega arith) c.requires.1.1 (sym c.number-here.ensures ∙ c.if-here-home.true))
 
 pub bounds-work-here-in-loop-left : goal.bounds-work-here-in-loop-left
 bounds-work-here-in-loop-left c =
     let a = c.args in
-    let d = halfedge_number c.in-At.turn in
-    let T : Turned a.halfedges a.rows.now (halfedge_number c.loop-left.c) d = turns_yes a.halfedges a.rows.now (halfedge_number c.loop-left.c) c.requires.0 d (sym (rw c.in-At.is at c.turned.ensures)) in
+    let d = halfedge_number c.in-Some.turn in
+    let T : Turned a.halfedges a.rows.now (halfedge_number c.loop-left.c) d = turns_yes a.halfedges a.rows.now (halfedge_number c.loop-left.c) c.requires.0 d (sym (rw c.in-Some.is at c.turned.ensures)) in
     omega (arith, c.number-here.ensures, T.in_use, c.loop-left.invariant.leaving.kept, c.requires.1.1)
 
 pub overflow_sub-left : goal.overflow_sub-left
@@ -56,8 +56,8 @@ loop-left-smaller c = omega arith
 pub loop-left-preserved : goal.loop-left-preserved
 loop-left-preserved c =
     let a = c.args in
-    let d = halfedge_number c.in-At.turn in
-    let T : Turned a.halfedges a.rows.now (halfedge_number c.loop-left.c) d = turns_yes a.halfedges a.rows.now (halfedge_number c.loop-left.c) c.requires.0 d (sym (rw c.in-At.is at c.turned.ensures)) in
+    let d = halfedge_number c.in-Some.turn in
+    let T : Turned a.halfedges a.rows.now (halfedge_number c.loop-left.c) d = turns_yes a.halfedges a.rows.now (halfedge_number c.loop-left.c) c.requires.0 d (sym (rw c.in-Some.is at c.turned.ensures)) in
     let l : c.number-home.result < c.args.halfedges = omega (arith, c.number-home.ensures, c.requires.1.0) in
     rw c.number-here.ensures (walk_on l c.loop-left.invariant T (omega arith) c.requires.1.1 (λ y. c.if-here-home.false (c.number-here.ensures ∙ y)))
 

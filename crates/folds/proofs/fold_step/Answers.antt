@@ -31,11 +31,11 @@ returns-in_default c =
 pub fold_at-requires : goal.fold_at-requires
 fold_at-requires c =
     let s = c.args in
-    let f = names_below (pair_of s.rows.now s.e.0) s.halfedges (sym (rw c.in-At.is at c.pair_of.ensures)) in
+    let f = names_below (pair_of s.rows.now s.e.0) s.halfedges (sym (rw c.in-Some.is at c.pair_of.ensures)) in
     ((c.requires.0, f), c.requires.1)
 
 pub returns : goal.returns
 unfolding fold
 returns c =
     let t = rw (c.is_paired.ensures, c.is_unpaired.ensures, c.next.ensures) at c.if-is_paired-is_unpaired.false in
-    (rw (← c.refused.ensures, c.if-refused.false, t, ← (rw c.in-At.is at c.pair_of.ensures)) c.fold_at.ensures.0, c.fold_at.ensures.1)
+    (rw (← c.refused.ensures, c.if-refused.false, t, ← (rw c.in-Some.is at c.pair_of.ensures)) c.fold_at.ensures.0, c.fold_at.ensures.1)

@@ -2,10 +2,10 @@
 use Rattle.folds.specs.Folds.{has_pair}
 use Rattle.folds.proofs.is_pair.Goals as goal
 
-pub returns-in-At : goal.returns-in-At
+pub returns-in-Some : goal.returns-in-Some
 unfolding has_pair
-returns-in-At c = rw (← c.pair_of.ensures, c.in-At.is, c.number.ensures, c.number-in-At.ensures)
+returns-in-Some c = rw (← c.pair_of.ensures, c.in-Some.is, c.number.ensures, c.number-in-Some.ensures)
 
-pub returns-in-Nothing : goal.returns-in-Nothing
+pub returns-in-None : goal.returns-in-None
 unfolding has_pair
-returns-in-Nothing c = rw (← c.pair_of.ensures, c.in-Nothing.is)
+returns-in-None c = rw (← c.pair_of.ensures, c.in-None.is)

@@ -18,10 +18,10 @@ returns-in_default c =
 pub set_position-requires : goal.set_position-requires
 set_position-requires c =
     let s = c.args in
-    let v = names_below (start_of s.rows.now s.h.0) s.run.vertices (sym (rw c.in-At.is at c.start_of.ensures)) in
+    let v = names_below (start_of s.rows.now s.h.0) s.run.vertices (sym (rw c.in-Some.is at c.start_of.ensures)) in
     omega (arith, v, c.requires.1.0)
 
 pub returns : goal.returns
 unfolding lose
 returns c =
-    (rw (← c.refused.ensures, c.if-refused.false, ← (rw c.in-At.is at c.start_of.ensures), c.set_position.ensures), refl)
+    (rw (← c.refused.ensures, c.if-refused.false, ← (rw c.in-Some.is at c.start_of.ensures), c.set_position.ensures), refl)

@@ -27,13 +27,13 @@ form_named-requires c =
     let t = and2 _ _ (sym c.spare_fits.ensures ∙ c.if-not-spare_fits.false) in
     ((w.halfedges_thirds, (w.halfedges_lent, w.halfedges_most)), (s.vertices_fit, (leb-true _ _ t.0, leb-true _ _ t.1)))
 
-pub returns-in-At : goal.returns-in-At
+pub returns-in-Some : goal.returns-in-Some
 unfolding form_loop
-returns-in-At c =
-    rw (← c.shaped.ensures, c.if-not-shaped.false, ← c.spare_fits.ensures, c.if-not-spare_fits.false, ← c.first_out.ensures, c.in-At.is)
+returns-in-Some c =
+    rw (← c.shaped.ensures, c.if-not-shaped.false, ← c.spare_fits.ensures, c.if-not-spare_fits.false, ← c.first_out.ensures, c.in-Some.is)
 
-pub returns-in-Nothing : goal.returns-in-Nothing
+pub returns-in-None : goal.returns-in-None
 unfolding form_loop
-returns-in-Nothing c =
-    rw (← c.shaped.ensures, c.if-not-shaped.false, ← c.spare_fits.ensures, c.if-not-spare_fits.false, ← c.first_out.ensures, c.in-Nothing.is)
+returns-in-None c =
+    rw (← c.shaped.ensures, c.if-not-shaped.false, ← c.spare_fits.ensures, c.if-not-spare_fits.false, ← c.first_out.ensures, c.in-None.is)
     (rw (to_z-of_z c.ranges.first, to_z-of_z c.ranges.second) at c.form_named.ensures)

@@ -47,7 +47,7 @@ returns-in_default c =
 pub pair_rows-requires : goal.pair_rows-requires
 pair_rows-requires c =
     let p = c.requires in
-    let b = names_below (pair_of c.append_triangle.new.rows c.args.h.0) (c.args.grown.halfedges + 3) (rw c.in-At.is at (sym c.pair_of.ensures)) in
+    let b = names_below (pair_of c.append_triangle.new.rows c.args.h.0) (c.args.grown.halfedges + 3) (rw c.in-Some.is at (sym c.pair_of.ensures)) in
     let f = grown_fits _ _ _ c.append_triangle.new.rows p.1.1 c.if-limits-used.false c.append_triangle.auto.rows in
     omega (arith, b, c.halfedge_appended.ensures, f.within_capacity, f.lent, f.few)
 
@@ -58,7 +58,7 @@ pub returns : goal.returns
 returns c =
     let s = c.args in
     let t = sym c.refused.ensures ∙ c.if-refused.false in
-    let z = rw (c.append_triangle.ensures, c.in-At.is) at c.pair_of.ensures in
+    let z = rw (c.append_triangle.ensures, c.in-Some.is) at c.pair_of.ensures in
     let len = c.pair_rows-2.auto.rows ∙ c.pair_rows.auto.rows ∙ c.append_triangle.auto.rows in
     let e = rw (c.pair_rows.ensures, c.halfedge_appended.ensures, c.halfedge_appended-2.ensures, c.append_triangle.ensures) at c.pair_rows-2.ensures in (
       λ p n f. ap (λ (x : List ℤ). growing (middle x p s.grown.run) (s.grown.halfedges + 3) n f) e

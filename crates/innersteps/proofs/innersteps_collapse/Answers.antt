@@ -20,9 +20,9 @@ pub collapse_step-requires : goal.collapse_step-requires
 collapse_step-requires c =
     let sh = shaped_yes _ _ (sym (rw c.counts_of.ensures at c.shaped.ensures) ∙ c.if-not-shaped.false) in
     let w = within _ _ sh in
-    (names_below c.args.halfedge c.args.used.halfedges (sym (rw (to_z-of_z c.ranges.halfedge, c.in-At.is) at c.halfedge_given.ensures)), (w.halfedges_thirds, (w.halfedges_lent, w.halfedges_most)))
+    (names_below c.args.halfedge c.args.used.halfedges (sym (rw (to_z-of_z c.ranges.halfedge, c.in-Some.is) at c.halfedge_given.ensures)), (w.halfedges_thirds, (w.halfedges_lent, w.halfedges_most)))
 
 pub returns : goal.returns
 unfolding collapse_step
 returns c =
-    rw (c.told.ensures, ← (rw c.counts_of.ensures at c.shaped.ensures), c.if-not-shaped.false, ← (rw (to_z-of_z c.ranges.halfedge, c.in-At.is) at c.halfedge_given.ensures), ← c.begun.ensures) (ap rows_left (c.collapse_step.ensures.0 c.args.positions.now))
+    rw (c.told.ensures, ← (rw c.counts_of.ensures at c.shaped.ensures), c.if-not-shaped.false, ← (rw (to_z-of_z c.ranges.halfedge, c.in-Some.is) at c.halfedge_given.ensures), ← c.begun.ensures) (ap rows_left (c.collapse_step.ensures.0 c.args.positions.now))

@@ -24,28 +24,28 @@ pub returns-in_default-start_of : goal.returns-in_default-start_of
 unfolding judge
 returns-in_default-start_of c =
     let t = sym c.is_paired.ensures ∙ c.if-not-is_paired.false in
-    let p = rw c.in-At.is at c.pair_of.ensures in
+    let p = rw c.in-Some.is at c.pair_of.ensures in
     rw (t, ← p, ← (rw c.in_default-start_of.is at c.start_of.ensures))
 
 pub returns-in_default-end_of : goal.returns-in_default-end_of
 unfolding judge
 returns-in_default-end_of c =
     let t = sym c.is_paired.ensures ∙ c.if-not-is_paired.false in
-    let p = rw c.in-At.is at c.pair_of.ensures in
-    let u = rw c.in-At-start_of.is at c.start_of.ensures in
+    let p = rw c.in-Some.is at c.pair_of.ensures in
+    let u = rw c.in-Some-start_of.is at c.start_of.ensures in
     rw (t, ← p, ← u, ← (rw c.in_default-end_of.is at c.end_of.ensures))
 
 pub next-requires : goal.next-requires
 next-requires c =
     let a = c.args in
-    let p = rw c.in-At.is at c.pair_of.ensures in
+    let p = rw c.in-Some.is at c.pair_of.ensures in
     let b = names_below (pair_of a.rows.now a.e.0) a.halfedges (sym p) in
     omega (arith, b, c.requires.1.0.1.1)
 
 pub is_paired-requires-2 : goal.is_paired-requires-2
 is_paired-requires-2 c =
     let a = c.args in
-    let p = rw c.in-At.is at c.pair_of.ensures in
+    let p = rw c.in-Some.is at c.pair_of.ensures in
     let b = next_in _ _ (names_below (pair_of a.rows.now a.e.0) a.halfedges (sym p)) c.requires.1.0.0 in
     rw c.next.ensures (omega (arith, b, c.requires.1.0.1.0))
 
@@ -53,17 +53,17 @@ pub returns-then-not-is_paired-2 : goal.returns-then-not-is_paired-2
 unfolding judge
 returns-then-not-is_paired-2 c =
     let t = sym c.is_paired.ensures ∙ c.if-not-is_paired.false in
-    let p = rw c.in-At.is at c.pair_of.ensures in
-    let u = rw c.in-At-start_of.is at c.start_of.ensures in
-    let v = rw c.in-At-end_of.is at c.end_of.ensures in
+    let p = rw c.in-Some.is at c.pair_of.ensures in
+    let u = rw c.in-Some-start_of.is at c.start_of.ensures in
+    let v = rw c.in-Some-end_of.is at c.end_of.ensures in
     rw (t, ← p, ← u, ← v, rw c.next.ensures at (sym c.is_paired-2.ensures ∙ c.if-not-is_paired-2.true))
 
 pub between-requires : goal.between-requires
 between-requires c =
     let a = c.args in
     let n = c.requires.1.1 in
-    let u = rw c.in-At-start_of.is at c.start_of.ensures in
-    let v = rw c.in-At-end_of.is at c.end_of.ensures in
+    let u = rw c.in-Some-start_of.is at c.start_of.ensures in
+    let v = rw c.in-Some-end_of.is at c.end_of.ensures in
     let b = names_below (start_of a.rows.now a.e.0) a.vertices (sym u) in
     let d = names_below (end_of a.rows.now a.e.0) a.vertices (sym v) in
     (omega (arith, b, n.0), (omega (arith, d, n.0), omega (arith, d, n.1)))
@@ -72,9 +72,9 @@ pub returns-in-Short : goal.returns-in-Short
 unfolding judge
 returns-in-Short c =
     let t = sym c.is_paired.ensures ∙ c.if-not-is_paired.false in
-    let p = rw c.in-At.is at c.pair_of.ensures in
-    let u = rw c.in-At-start_of.is at c.start_of.ensures in
-    let v = rw c.in-At-end_of.is at c.end_of.ensures in
+    let p = rw c.in-Some.is at c.pair_of.ensures in
+    let u = rw c.in-Some-start_of.is at c.start_of.ensures in
+    let v = rw c.in-Some-end_of.is at c.end_of.ensures in
     let s = rw c.next.ensures at (sym c.is_paired-2.ensures ∙ c.if-not-is_paired-2.false) in
     rw (t, ← p, ← u, ← v, s, ← (rw c.in-Short.is at c.between.ensures))
 
@@ -82,8 +82,8 @@ pub returns-in-Long : goal.returns-in-Long
 unfolding judge
 returns-in-Long c =
     let t = sym c.is_paired.ensures ∙ c.if-not-is_paired.false in
-    let p = rw c.in-At.is at c.pair_of.ensures in
-    let u = rw c.in-At-start_of.is at c.start_of.ensures in
-    let v = rw c.in-At-end_of.is at c.end_of.ensures in
+    let p = rw c.in-Some.is at c.pair_of.ensures in
+    let u = rw c.in-Some-start_of.is at c.start_of.ensures in
+    let v = rw c.in-Some-end_of.is at c.end_of.ensures in
     let s = rw c.next.ensures at (sym c.is_paired-2.ensures ∙ c.if-not-is_paired-2.false) in
     rw (t, ← p, ← u, ← v, s, ← (rw c.in-Long.is at c.between.ensures))

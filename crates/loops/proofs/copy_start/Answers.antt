@@ -17,10 +17,10 @@ returns-in_default c =
 pub append_copy-requires : goal.append_copy-requires
 append_copy-requires c =
     let s = c.args in
-    let v = names_below (start_of s.rows.now s.h.0) s.run.vertices (sym (rw c.in-At.is at c.start_of.ensures)) in
+    let v = names_below (start_of s.rows.now s.h.0) s.run.vertices (sym (rw c.in-Some.is at c.start_of.ensures)) in
     (v, c.requires.1)
 
 pub returns : goal.returns
 unfolding copy
 returns c =
-    (rw (← c.refused.ensures, c.if-refused.false, ← (rw c.in-At.is at c.start_of.ensures)) (c.append_copy.ensures.0 c.args.rows.now), c.append_copy.ensures.1)
+    (rw (← c.refused.ensures, c.if-refused.false, ← (rw c.in-Some.is at c.start_of.ensures)) (c.append_copy.ensures.0 c.args.rows.now), c.append_copy.ensures.1)

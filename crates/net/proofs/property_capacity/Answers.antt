@@ -4,4 +4,4 @@ use Rattle.net.proofs.property_capacity.Goals as goal
 
 pub returns : goal.returns
 unfolding property_capacity_over
-returns c = rw (c.lesser.ensures, c.lent_properties.ensures)
+returns c = rw (c.min.ensures, c.lent_properties.ensures)

@@ -4,4 +4,4 @@ use Rattle.net.proofs.triangle_capacity.Goals as goal
 
 pub returns : goal.returns
 unfolding triangle_capacity_over
-returns c = rw (c.lesser-2.ensures, c.lesser-by_halfedges.ensures, c.lesser.ensures, c.triangles_for-by_references.ensures, c.triangles_for-by_normals.ensures, c.lent.ensures, c.lent_references.ensures, c.lent-2.ensures)
+returns c = rw (c.min-2.ensures, c.min-by_halfedges.ensures, c.min.ensures, c.triangles_for-by_references.ensures, c.triangles_for-by_normals.ensures, c.lent.ensures, c.lent-2.ensures, c.lent-3.ensures)

@@ -4,4 +4,4 @@ use Rattle.net.proofs.vertex_capacity.Goals as goal
 
 pub returns : goal.returns
 unfolding vertex_capacity_over
-returns c = rw (c.lesser.ensures, c.lent.ensures)
+returns c = rw (c.min.ensures, c.lent.ensures)

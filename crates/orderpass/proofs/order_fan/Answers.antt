@@ -17,11 +17,11 @@ returns-then-first c =
     let args = c.args in
     let at_mark_vertex = c.mark_vertex-first in
     let at_order_fan = c.order_fan in
-    fan_given args.halfedges (halfedge_number args.i) (vertex_number args.v) _ args.work.now _ _ at_mark_vertex.result args.added args.steps _ at_mark_vertex.ensures.0 at_mark_vertex.ensures.1 at_order_fan.ensures.0 (sym c.in-At.is ∙ at_order_fan.ensures.1) _ (ap (λ f. cond f args.added (args.added + 1)) (sym c.if-first.true))
+    fan_given args.halfedges (halfedge_number args.i) (vertex_number args.v) _ args.work.now _ _ at_mark_vertex.result args.added args.steps _ at_mark_vertex.ensures.0 at_mark_vertex.ensures.1 at_order_fan.ensures.0 (sym c.in-Some.is ∙ at_order_fan.ensures.1) _ (ap (λ f. cond f args.added (args.added + 1)) (sym c.if-first.true))
 
 pub returns : goal.returns
 returns c =
     let args = c.args in
     let at_mark_vertex = c.mark_vertex-first in
     let at_order_fan = c.order_fan in
-    fan_given args.halfedges (halfedge_number args.i) (vertex_number args.v) _ args.work.now _ _ at_mark_vertex.result args.added args.steps _ at_mark_vertex.ensures.0 at_mark_vertex.ensures.1 at_order_fan.ensures.0 (sym c.in-At.is ∙ at_order_fan.ensures.1) _ (ap (λ f. cond f args.added (args.added + 1)) (sym c.if-first.false))
+    fan_given args.halfedges (halfedge_number args.i) (vertex_number args.v) _ args.work.now _ _ at_mark_vertex.result args.added args.steps _ at_mark_vertex.ensures.0 at_mark_vertex.ensures.1 at_order_fan.ensures.0 (sym c.in-Some.is ∙ at_order_fan.ensures.1) _ (ap (λ f. cond f args.added (args.added + 1)) (sym c.if-first.false))

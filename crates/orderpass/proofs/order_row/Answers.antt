@@ -23,17 +23,17 @@ order_fan-requires c =
     let at_is_walked = c.is_walked in
     let at_if1 = c.if-is_walked in
     let at_start_of = c.start_of in
-    let at_v = c.in-At in
+    let at_v = c.in-Some in
     let b = names_below (start_of args.rows.now (halfedge_number args.i)) args.vertices (sym at_start_of.ensures ∙ ap vertex_named at_v.is) in
     (pre.fan (sym at_is_walked.ensures ∙ at_if1.false) _ (sym at_start_of.ensures ∙ ap vertex_named at_v.is), (omega (arith, b, pre.work_long), (omega (arith, b, pre.numbers_few), omega (arith, pre.added_few))))
 
-pub returns-in-At : goal.returns-in-At
-returns-in-At c =
+pub returns-in-Some : goal.returns-in-Some
+returns-in-Some c =
     let args = c.args in
     let at_is_walked = c.is_walked in
     let at_if1 = c.if-is_walked in
     let at_start_of = c.start_of in
-    row_fan args.halfedges args.vertices args.rows.now (halfedge_number args.i) args.work.now args.added args.steps (sym at_is_walked.ensures ∙ at_if1.false) _ (sym at_start_of.ensures ∙ ap vertex_named c.in-At.is) _ _ c.order_fan.ensures
+    row_fan args.halfedges args.vertices args.rows.now (halfedge_number args.i) args.work.now args.added args.steps (sym at_is_walked.ensures ∙ at_if1.false) _ (sym at_start_of.ensures ∙ ap vertex_named c.in-Some.is) _ _ c.order_fan.ensures
 
-pub returns-in-Nothing : goal.returns-in-Nothing
-returns-in-Nothing c = row_unnamed c.args.halfedges c.args.vertices c.args.rows.now (halfedge_number c.args.i) c.args.work.now c.args.added c.args.steps (sym c.is_walked.ensures ∙ c.if-is_walked.false) (sym c.start_of.ensures ∙ ap vertex_named c.in-Nothing.is)
+pub returns-in-None : goal.returns-in-None
+returns-in-None c = row_unnamed c.args.halfedges c.args.vertices c.args.rows.now (halfedge_number c.args.i) c.args.work.now c.args.added c.args.steps (sym c.is_walked.ensures ∙ c.if-is_walked.false) (sym c.start_of.ensures ∙ ap vertex_named c.in-None.is)

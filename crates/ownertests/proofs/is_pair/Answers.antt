@@ -1,8 +1,8 @@
 -- `ownertests::is_pair` meets its contract.
 use Rattle.ownertests.proofs.is_pair.Goals as goal
 
-pub returns-in-At : goal.returns-in-At
-returns-in-At c = rw (← c.pair_of.ensures, c.in-At.is, c.number.ensures, c.number-in-At.ensures)
+pub returns-in-Some : goal.returns-in-Some
+returns-in-Some c = rw (← c.pair_of.ensures, c.in-Some.is, c.number.ensures, c.number-in-Some.ensures)
 
-pub returns-in-Nothing : goal.returns-in-Nothing
-returns-in-Nothing c = rw (← c.pair_of.ensures, c.in-Nothing.is)
+pub returns-in-None : goal.returns-in-None
+returns-in-None c = rw (← c.pair_of.ensures, c.in-None.is)

@@ -10,12 +10,12 @@ use Rattle.ownertests.proofs.is_paired_back.Goals as goal
 pub is_pair-requires : goal.is_pair-requires
 is_pair-requires c =
     let a = c.args in
-    omega (arith, names_below (pair_of a.rows.now (halfedge_number a.h)) a.halfedges (sym (rw c.in-At.is at c.pair_of.ensures)))
+    omega (arith, names_below (pair_of a.rows.now (halfedge_number a.h)) a.halfedges (sym (rw c.in-Some.is at c.pair_of.ensures)))
 
-pub returns-in-At : goal.returns-in-At
+pub returns-in-Some : goal.returns-in-Some
 unfolding points_back
-returns-in-At c = rw (← c.pair_of.ensures, c.in-At.is) c.is_pair.ensures
+returns-in-Some c = rw (← c.pair_of.ensures, c.in-Some.is) c.is_pair.ensures
 
-pub returns-in-Nothing : goal.returns-in-Nothing
+pub returns-in-None : goal.returns-in-None
 unfolding points_back
-returns-in-Nothing c = rw (← c.pair_of.ensures, c.in-Nothing.is, c.is_paired.ensures)
+returns-in-None c = rw (← c.pair_of.ensures, c.in-None.is, c.is_paired.ensures)

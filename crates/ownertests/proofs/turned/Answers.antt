@@ -15,23 +15,23 @@ returns-in_default c =
 pub is_pair-requires : goal.is_pair-requires
 is_pair-requires c =
     let a = c.args in
-    let e : names (pair_of a.rows.now (halfedge_number a.h)) a.halfedges ≡ at (halfedge_number c.in-At.p) = sym (rw c.in-At.is at c.pair_of.ensures) in
+    let e : names (pair_of a.rows.now (halfedge_number a.h)) a.halfedges ≡ at (halfedge_number c.in-Some.p) = sym (rw c.in-Some.is at c.pair_of.ensures) in
     omega (arith, names_below (pair_of a.rows.now (halfedge_number a.h)) a.halfedges e, c.requires.0.lent)
 
 pub returns-then-not-is_pair : goal.returns-then-not-is_pair
 returns-then-not-is_pair c =
     let a = c.args in
-    let e : names (pair_of a.rows.now (halfedge_number a.h)) a.halfedges ≡ at (halfedge_number c.in-At.p) = sym (rw c.in-At.is at c.pair_of.ensures) in
-    sym (turns_astray a.halfedges a.rows.now (halfedge_number a.h) (halfedge_number c.in-At.p) e (sym c.is_pair.ensures ∙ c.if-not-is_pair.true))
+    let e : names (pair_of a.rows.now (halfedge_number a.h)) a.halfedges ≡ at (halfedge_number c.in-Some.p) = sym (rw c.in-Some.is at c.pair_of.ensures) in
+    sym (turns_astray a.halfedges a.rows.now (halfedge_number a.h) (halfedge_number c.in-Some.p) e (sym c.is_pair.ensures ∙ c.if-not-is_pair.true))
 
 pub next-requires : goal.next-requires
 next-requires c =
     let a = c.args in
-    let e : names (pair_of a.rows.now (halfedge_number a.h)) a.halfedges ≡ at (halfedge_number c.in-At.p) = sym (rw c.in-At.is at c.pair_of.ensures) in
+    let e : names (pair_of a.rows.now (halfedge_number a.h)) a.halfedges ≡ at (halfedge_number c.in-Some.p) = sym (rw c.in-Some.is at c.pair_of.ensures) in
     omega (arith, names_below (pair_of a.rows.now (halfedge_number a.h)) a.halfedges e, c.requires.0.few)
 
 pub returns : goal.returns
 returns c =
     let a = c.args in
-    let e : names (pair_of a.rows.now (halfedge_number a.h)) a.halfedges ≡ at (halfedge_number c.in-At.p) = sym (rw c.in-At.is at c.pair_of.ensures) in
-    rw c.next.ensures (sym (turns_on a.halfedges a.rows.now (halfedge_number a.h) (halfedge_number c.in-At.p) e (sym c.is_pair.ensures ∙ c.if-not-is_pair.false)))
+    let e : names (pair_of a.rows.now (halfedge_number a.h)) a.halfedges ≡ at (halfedge_number c.in-Some.p) = sym (rw c.in-Some.is at c.pair_of.ensures) in
+    rw c.next.ensures (sym (turns_on a.halfedges a.rows.now (halfedge_number a.h) (halfedge_number c.in-Some.p) e (sym c.is_pair.ensures ∙ c.if-not-is_pair.false)))

@@ -15,19 +15,19 @@ returns-in_default c = rw (← (rw (to_z-of_z c.ranges.halfedge, c.in_default.is
 pub is_paired-requires : goal.is_paired-requires
 is_paired-requires c =
     let s = c.args in
-    let b = names_below s.halfedge s.halfedges (sym (rw (to_z-of_z c.ranges.halfedge, c.in-At.is) at c.halfedge_given.ensures)) in
+    let b = names_below s.halfedge s.halfedges (sym (rw (to_z-of_z c.ranges.halfedge, c.in-Some.is) at c.halfedge_given.ensures)) in
     omega (arith, b, c.requires.0.1.0)
 
 pub returns-then-not-is_paired : goal.returns-then-not-is_paired
 unfolding fold_named
 returns-then-not-is_paired c =
     let t = rw c.is_paired.ensures at c.if-not-is_paired.true in
-    rw (← (rw (to_z-of_z c.ranges.halfedge, c.in-At.is) at c.halfedge_given.ensures), t)
+    rw (← (rw (to_z-of_z c.ranges.halfedge, c.in-Some.is) at c.halfedge_given.ensures), t)
 
 pub fold_step-requires : goal.fold_step-requires
 fold_step-requires c =
     let s = c.args in
-    let b = names_below s.halfedge s.halfedges (sym (rw (to_z-of_z c.ranges.halfedge, c.in-At.is) at c.halfedge_given.ensures)) in
+    let b = names_below s.halfedge s.halfedges (sym (rw (to_z-of_z c.ranges.halfedge, c.in-Some.is) at c.halfedge_given.ensures)) in
     rw c.begun.ensures (b, c.requires)
 
 pub returns : goal.returns
@@ -35,4 +35,4 @@ unfolding fold_named
 returns c =
     let t = rw c.is_paired.ensures at c.if-not-is_paired.false in
     let r = ap (with_arrays (done [])) c.fold_step.ensures.0 in
-    rw (← (rw (to_z-of_z c.ranges.halfedge, c.in-At.is) at c.halfedge_given.ensures), t, ← c.begun.ensures) r
+    rw (← (rw (to_z-of_z c.ranges.halfedge, c.in-Some.is) at c.halfedge_given.ensures), t, ← c.begun.ensures) r

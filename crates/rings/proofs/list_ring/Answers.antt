@@ -44,16 +44,16 @@ loop-n-smaller c = omega (arith, c.loop-n-test.true)
 pub loop-n-preserved : goal.loop-n-preserved
 loop-n-preserved c =
     let s = c.args in
-    let e = rw c.next-h.ensures at (sym c.pair_of.ensures ∙ ap halfedge_named c.in-At.is) in
+    let e = rw c.next-h.ensures at (sym c.pair_of.ensures ∙ ap halfedge_named c.in-Some.is) in
     rw (c.number-in-loop-n-2.ensures, c.next-h.ensures) (lists_on s.halfedges s.to.0 s.rows.now c.requires.1.1 c.loop-n.invariant c.loop-n-test.true c.requires.1.0.0 (λ h. c.if-number.false (c.number.ensures ∙ h ∙ sym c.number-in-loop-n.ensures)) _ e)
 
-pub shape_of-list-in-Nothing : goal.shape_of-list-in-Nothing
-shape_of-list-in-Nothing c = simp length-set c.loop-n.invariant.kept
+pub shape_of-list-in-None : goal.shape_of-list-in-None
+shape_of-list-in-None c = simp length-set c.loop-n.invariant.kept
 
-pub returns-in-Nothing : goal.returns-in-Nothing
-returns-in-Nothing c =
+pub returns-in-None : goal.returns-in-None
+returns-in-None c =
     let s = c.args in
-    let e = rw c.next-h.ensures at (sym c.pair_of.ensures ∙ ap halfedge_named c.in-Nothing.is) in
+    let e = rw c.next-h.ensures at (sym c.pair_of.ensures ∙ ap halfedge_named c.in-None.is) in
     let away : halfedge_number c.loop-n.at ≡ s.to.0 → ⊥ = λ h. c.if-number.false (c.number.ensures ∙ h ∙ sym c.number-in-loop-n.ensures) in
     let w = lists_off s.halfedges s.to.0 s.rows.now c.requires.1.1 c.loop-n.invariant c.loop-n-test.true c.requires.1.0.0 away e in
     rw (c.number-in-loop-n-2.ensures, c.next-h.ensures) (w.0, (w.1, lists_beyond s.halfedges s.to.0 s.rows.now c.requires.1.1 c.loop-n.invariant c.loop-n-test.true c.requires.1.0.0 away))

@@ -8,10 +8,10 @@ use Rattle.rowtests.proofs.has_partner.Goals as goal
 pub mirrored-requires : goal.mirrored-requires
 mirrored-requires c =
     let a = c.args in
-    omega (arith, names_below (pair_of a.tri.now a.k) a.halfedges (sym (rw c.in-At.is at c.partner.ensures)))
+    omega (arith, names_below (pair_of a.tri.now a.k) a.halfedges (sym (rw c.in-Some.is at c.partner.ensures)))
 
-pub returns-in-At : goal.returns-in-At
-returns-in-At c = rw (← c.partner.ensures, c.in-At.is) c.mirrored.ensures
+pub returns-in-Some : goal.returns-in-Some
+returns-in-Some c = rw (← c.partner.ensures, c.in-Some.is) c.mirrored.ensures
 
-pub returns-in-Nothing : goal.returns-in-Nothing
-returns-in-Nothing c = rw (← c.partner.ensures, c.in-Nothing.is)
+pub returns-in-None : goal.returns-in-None
+returns-in-None c = rw (← c.partner.ensures, c.in-None.is)

@@ -20,11 +20,11 @@ pub pair_of-requires : goal.pair_of-requires
 pair_of-requires c = omega (arith, c.fan.invariant.0, c.requires.1.1.0)
 
 pub next-at-requires : goal.next-at-requires
-next-at-requires c = omega (arith, names_below (pair_of c.args.rows.now c.fan.at.0) c.args.halfedges (sym c.pair_of.ensures ∙ ap halfedge_named c.in-At.is), c.requires.1.1.1)
+next-at-requires c = omega (arith, names_below (pair_of c.args.rows.now c.fan.at.0) c.args.halfedges (sym c.pair_of.ensures ∙ ap halfedge_named c.in-Some.is), c.requires.1.1.1)
 
 pub same_end-requires : goal.same_end-requires
 same_end-requires c =
-    let b = next_in _ _ (names_below (pair_of c.args.rows.now c.fan.at.0) c.args.halfedges (sym c.pair_of.ensures ∙ ap halfedge_named c.in-At.is)) c.requires.1.0 in
+    let b = next_in _ _ (names_below (pair_of c.args.rows.now c.fan.at.0) c.args.halfedges (sym c.pair_of.ensures ∙ ap halfedge_named c.in-Some.is)) c.requires.1.0 in
     omega (arith, b, c.requires.0, c.requires.1.1.0, c.next-at.ensures)
 
 pub overflow_sub-left : goal.overflow_sub-left
@@ -40,7 +40,7 @@ fan-preserved c =
     let at_fan = c.fan in
     let at_if1 = c.if-left-eq0 in
     let at_pair_of = c.pair_of in
-    let at_p = c.in-At in
+    let at_p = c.in-Some in
     let at_next = c.next-at in
     let at_number = c.number in
     let at_number2 = c.number-in-fan in
@@ -59,11 +59,11 @@ returns-in_default c = let s = c.args in again_off s.halfedges s.e.0 s.rows.now 
 pub returns-then-number : goal.returns-then-number
 returns-then-number c =
     let s = c.args in
-    let a = sym c.pair_of.ensures ∙ ap halfedge_named c.in-At.is in
+    let a = sym c.pair_of.ensures ∙ ap halfedge_named c.in-Some.is in
     again_home s.halfedges s.e.0 s.rows.now _ _ c.if-left-eq0.false _ a (sym c.next-at.ensures ∙ sym c.number.ensures ∙ c.if-number.true ∙ c.number-in-fan.ensures) ∙ c.fan.invariant.1
 
 pub returns-then-same_end : goal.returns-then-same_end
 returns-then-same_end c =
     let s = c.args in
-    let a = sym c.pair_of.ensures ∙ ap halfedge_named c.in-At.is in
+    let a = sym c.pair_of.ensures ∙ ap halfedge_named c.in-Some.is in
     again_met s.halfedges s.e.0 s.rows.now _ _ c.if-left-eq0.false _ a (λ h. c.if-number.false (c.number.ensures ∙ c.next-at.ensures ∙ h ∙ sym c.number-in-fan.ensures)) (rw c.next-at.ensures at (sym c.same_end.ensures ∙ c.if-same_end.true)) ∙ c.fan.invariant.1

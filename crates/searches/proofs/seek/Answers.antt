@@ -33,7 +33,7 @@ pub fan-preserved : goal.fan-preserved
 unfolding onward
 fan-preserved c =
     let s = c.args in
-    let e = rw c.next.ensures at (sym c.pair_of.ensures ∙ ap halfedge_named c.in-At.is) in
+    let e = rw c.next.ensures at (sym c.pair_of.ensures ∙ ap halfedge_named c.in-Some.is) in
     (onward_below s.halfedges s.rows.now _ e, seek_on s.halfedges s.v.0 s.home.0 s.rows.now _ _ _ c.if-left-eq0.false (λ h. c.if-number.false (c.number.ensures ∙ h ∙ sym c.number-in-fan.ensures)) (sym c.starts_at.ensures ∙ c.if-starts_at.false) e ∙ c.fan.invariant.1)
 
 pub returns-then-number : goal.returns-then-number
@@ -45,9 +45,9 @@ returns-then-starts_at c = let s = c.args in seek_met s.halfedges s.v.0 s.home.0
 pub returns-then-left-eq0 : goal.returns-then-left-eq0
 returns-then-left-eq0 c = let s = c.args in seek_tired s.halfedges s.v.0 s.home.0 s.rows.now _ _ c.if-left-eq0.true (λ h. c.if-number.false (c.number.ensures ∙ h ∙ sym c.number-in-fan.ensures)) (sym c.starts_at.ensures ∙ c.if-starts_at.false) ∙ c.fan.invariant.1
 
-pub returns-in-Nothing : goal.returns-in-Nothing
+pub returns-in-None : goal.returns-in-None
 unfolding onward
-returns-in-Nothing c =
+returns-in-None c =
     let s = c.args in
-    let e = rw c.next.ensures at (sym c.pair_of.ensures ∙ ap halfedge_named c.in-Nothing.is) in
+    let e = rw c.next.ensures at (sym c.pair_of.ensures ∙ ap halfedge_named c.in-None.is) in
     seek_off s.halfedges s.v.0 s.home.0 s.rows.now _ _ c.if-left-eq0.false (λ h. c.if-number.false (c.number.ensures ∙ h ∙ sym c.number-in-fan.ensures)) (sym c.starts_at.ensures ∙ c.if-starts_at.false) e ∙ c.fan.invariant.1

@@ -8,17 +8,11 @@ pub returns-then-not-shaped : goal.returns-then-not-shaped
 unfolding check_net
 returns-then-not-shaped c = rw (← c.shaped.ensures, c.if-not-shaped.true)
 
-pub first_out-requires : goal.first_out-requires
-first_out-requires c =
+pub check_rows-requires : goal.check_rows-requires
+check_rows-requires c =
     let w = within _ _ (shaped_yes _ _ (sym c.shaped.ensures ∙ c.if-not-shaped.false)) in
     (w.halfedges_thirds, (w.halfedges_lent, w.halfedges_most))
 
-pub returns-in-At : goal.returns-in-At
+pub returns : goal.returns
 unfolding check_net
-returns-in-At c =
-    rw (← c.shaped.ensures, c.if-not-shaped.false, ← c.first_out.ensures, c.in-At.is)
-
-pub returns-in-Nothing : goal.returns-in-Nothing
-unfolding check_net
-returns-in-Nothing c =
-    rw (← c.shaped.ensures, c.if-not-shaped.false, ← c.first_out.ensures, c.in-Nothing.is)
+returns c = rw (← c.shaped.ensures, c.if-not-shaped.false) c.check_rows.ensures

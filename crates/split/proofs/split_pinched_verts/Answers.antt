@@ -51,11 +51,11 @@ split_sound-requires c =
     let n = net args.halfedges.now args.positions.now args.normals.now args.references.now args.properties.now in
     let shaped_here = sym at_shaped.ensures ∙ at_if1.false in
     let long_here = rw (at_long_enough.ensures, at_long_enough2.ensures) at at_if2.false in
-    let s = sound_here args.counts n args.work.now args.visit.now shaped_here (sym at_first_out.ensures ∙ ap halfedge_named c.in-Nothing.is) in
+    let s = sound_here args.counts n args.work.now args.visit.now shaped_here (sym at_first_out.ensures ∙ ap halfedge_named c.in-None.is) in
     (sound_rows args.counts n s, (work_long args.counts n args.work.now args.visit.now long_here, (visit_long args.counts n args.work.now args.visit.now long_here, s.shaped.vertices_fit)))
 
-pub returns-in-At : goal.returns-in-At
-returns-in-At c =
+pub returns-in-Some : goal.returns-in-Some
+returns-in-Some c =
     let args = c.args in
     let at_shaped = c.shaped in
     let at_if1 = c.if-not-shaped in
@@ -65,10 +65,10 @@ returns-in-At c =
     let n = net args.halfedges.now args.positions.now args.normals.now args.references.now args.properties.now in
     let shaped_here = sym at_shaped.ensures ∙ at_if1.false in
     let long_here = rw (at_long_enough.ensures, at_long_enough2.ensures) at at_if2.false in
-    said_unsound args.counts n args.work.now args.visit.now shaped_here long_here _ (sym c.first_out.ensures ∙ ap halfedge_named c.in-At.is)
+    said_unsound args.counts n args.work.now args.visit.now shaped_here long_here _ (sym c.first_out.ensures ∙ ap halfedge_named c.in-Some.is)
 
-pub returns-in-Nothing : goal.returns-in-Nothing
-returns-in-Nothing c =
+pub returns-in-None : goal.returns-in-None
+returns-in-None c =
     let args = c.args in
     let at_shaped = c.shaped in
     let at_if1 = c.if-not-shaped in
@@ -76,7 +76,7 @@ returns-in-Nothing c =
     let at_long_enough2 = c.long_enough-2 in
     let at_if2 = c.if-not-long_enough in
     let at_first_out = c.first_out in
-    let at_enum_told = c.in-Nothing in
+    let at_enum_told = c.in-None in
     let at_split_sound = c.split_sound in
     let n = net args.halfedges.now args.positions.now args.normals.now args.references.now args.properties.now in
     let shaped_here = sym at_shaped.ensures ∙ at_if1.false in

@@ -13,14 +13,14 @@ split_cleared-said-requires c =
     let a = c.args in
     let p = c.requires in
     let n = a.halfedges + a.vertices in
-    let e = c.zero_u32.ensures in
+    let e = c.fill.ensures in
     (p.0, (rw (e, length_filled 0 0 n a.work.now (omega arith) p.1.0) p.1.0, (p.1.1.0, (p.1.1.1, ap (cleared n) e ∙ filled_again 0 n a.work.now _ _ refl refl ∙ sym e))))
 
 pub returns : goal.returns
 returns c =
     let a = c.args in
     let n = a.halfedges + a.vertices in
-    let e = c.zero_u32.ensures in
+    let e = c.fill.ensures in
     let s = c.split_cleared-said.ensures in
-    with_work _ _ _ _ _ _ _ (filled_again 0 n a.work.now _ _ (s.1 ∙ ap (drop n) e) c.zero_u32-2.ensures ∙ sym e) s.0
+    with_work _ _ _ _ _ _ _ (filled_again 0 n a.work.now _ _ (s.1 ∙ ap (drop n) e) c.fill-2.ensures ∙ sym e) s.0
     ∙ sound_same a.halfedges a.vertices a.rows.now a.positions.now _ a.work.now a.visit.now (ap (cleared n) e ∙ filled_again 0 n a.work.now _ _ refl refl)

@@ -23,7 +23,7 @@ unfolding enter
 returns-in_default c = rw (← c.end_of.ensures, c.in_default.is, c.see.ensures, c.number-k.ensures)
 
 pub entry_at-x-requires : goal.entry_at-x-requires
-entry_at-x-requires c = omega (arith, c.number-v.ensures, names_below (end_of c.args.rows.now c.args.c.0) c.args.vertices (sym c.end_of.ensures ∙ ap vertex_named c.in-At.is), c.see.auto.work, c.requires.1.1)
+entry_at-x-requires c = omega (arith, c.number-v.ensures, names_below (end_of c.args.rows.now c.args.c.0) c.args.vertices (sym c.end_of.ensures ∙ ap vertex_named c.in-Some.is), c.see.auto.work, c.requires.1.1)
 
 pub lesser-requires : goal.lesser-requires
 lesser-requires c = omega (arith, c.number-k.ensures, c.requires.0.1)
@@ -35,7 +35,7 @@ place-requires c =
     let at_number = c.number-k in
     let at_see = c.see in
     let at_end_of = c.end_of in
-    let at_end = c.in-At in
+    let at_end = c.in-Some in
     let at_number2 = c.number-v in
     let at_entry_at = c.entry_at-x in
     (omega (arith, at_number2.ensures, names_below (end_of at_args.rows.now at_args.c.0) at_args.vertices (sym at_end_of.ensures ∙ ap vertex_named at_end.is), at_see.auto.work, at_pre.1.1), rw c.lesser.ensures (lesser_bound at_entry_at.result at_number.result entry_limit (omega (arith, at_entry_at.ensures)) (omega (arith, at_number.ensures, at_pre.0.1))))
@@ -45,4 +45,4 @@ shape_of-work c = c.place.auto.work ∙ c.see.auto.work
 
 pub returns : goal.returns
 unfolding enter
-returns c = rw (← c.end_of.ensures, c.in-At.is, c.place.ensures, c.lesser.ensures, c.entry_at-x.ensures, c.see.ensures, c.number-v.ensures, c.number-k.ensures)
+returns c = rw (← c.end_of.ensures, c.in-Some.is, c.place.ensures, c.lesser.ensures, c.entry_at-x.ensures, c.see.ensures, c.number-v.ensures, c.number-k.ensures)

@@ -23,13 +23,13 @@ pub returns-in_default : goal.returns-in_default
 returns-in_default c = let s = c.args in fold_done s.halfedges s.rows.now s.i.0 (enter_all s.vertices s.rows.now) _ _ _ _ (enter_one s.vertices s.rows.now _ (table c.loop-q.work c.loop-q.twice) _ c.enter-twice.ensures) (enter_none s.vertices s.rows.now _) (sym c.turn_on.ensures ∙ ap halfedge_named c.in_default.is) ∙ c.loop-q.invariant.1.1
 
 pub overflow_sub-left : goal.overflow_sub-left
-overflow_sub-left c = let s = c.args in omega (arith, turns_some s.halfedges s.rows.now s.i.0 _ _ _ (sym c.turn_on.ensures ∙ ap halfedge_named c.in-At.is))
+overflow_sub-left c = let s = c.args in omega (arith, turns_some s.halfedges s.rows.now s.i.0 _ _ _ (sym c.turn_on.ensures ∙ ap halfedge_named c.in-Some.is))
 
 pub loop-q-smaller : goal.loop-q-smaller
-loop-q-smaller c = let s = c.args in omega (arith, turns_some s.halfedges s.rows.now s.i.0 _ _ _ (sym c.turn_on.ensures ∙ ap halfedge_named c.in-At.is))
+loop-q-smaller c = let s = c.args in omega (arith, turns_some s.halfedges s.rows.now s.i.0 _ _ _ (sym c.turn_on.ensures ∙ ap halfedge_named c.in-Some.is))
 
 pub loop-q-preserved : goal.loop-q-preserved
 loop-q-preserved c =
     let s = c.args in
-    let e = sym c.turn_on.ensures ∙ ap halfedge_named c.in-At.is in
+    let e = sym c.turn_on.ensures ∙ ap halfedge_named c.in-Some.is in
     (turns_below s.halfedges s.rows.now s.i.0 c.requires.1.0.0 _ _ _ e, (c.enter-twice.auto.work ∙ c.loop-q.invariant.1.0, fold_on s.halfedges s.rows.now s.i.0 (enter_all s.vertices s.rows.now) _ _ _ _ (enter_one s.vertices s.rows.now _ (table c.loop-q.work c.loop-q.twice) _ c.enter-twice.ensures) _ e ∙ c.loop-q.invariant.1.1))

@@ -12,8 +12,8 @@ unfolding is_over
 returns-in_default c = rw (← c.end_of.ensures, c.in_default.is)
 
 pub entry_at-requires : goal.entry_at-requires
-entry_at-requires c = omega (arith, c.number.ensures, names_below (end_of c.args.rows.now c.args.c.0) c.args.vertices (sym c.end_of.ensures ∙ ap vertex_named c.in-At.is), c.requires.1)
+entry_at-requires c = omega (arith, c.number.ensures, names_below (end_of c.args.rows.now c.args.c.0) c.args.vertices (sym c.end_of.ensures ∙ ap vertex_named c.in-Some.is), c.requires.1)
 
 pub returns : goal.returns
 unfolding is_over
-returns c = rw (← c.end_of.ensures, c.in-At.is, c.entry_at.ensures, c.number.ensures, c.number-2.ensures)
+returns c = rw (← c.end_of.ensures, c.in-Some.is, c.entry_at.ensures, c.number.ensures, c.number-2.ensures)

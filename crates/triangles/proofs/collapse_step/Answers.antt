@@ -44,16 +44,16 @@ pair_of-requires-2 c =
 pub returns-in_default-pair_of : goal.returns-in_default-pair_of
 unfolding collapse
 returns-in_default-pair_of c =
-    (λ p. rw (← c.refused.ensures, c.if-refused.false, ← (rw c.next-second.ensures at c.is_unpaired.ensures), c.if-is_unpaired.false, ← (rw (c.next-second.ensures, c.in-At.is) at c.pair_of.ensures), ← (rw (c.next.ensures, c.next-second.ensures, c.in_default-pair_of.is) at c.pair_of-2.ensures), c.stopped-in_default-pair_of.ensures), rw c.stopped-in_default-pair_of.ensures refl)
+    (λ p. rw (← c.refused.ensures, c.if-refused.false, ← (rw c.next-second.ensures at c.is_unpaired.ensures), c.if-is_unpaired.false, ← (rw (c.next-second.ensures, c.in-Some.is) at c.pair_of.ensures), ← (rw (c.next.ensures, c.next-second.ensures, c.in_default-pair_of.is) at c.pair_of-2.ensures), c.stopped-in_default-pair_of.ensures), rw c.stopped-in_default-pair_of.ensures refl)
 
 pub collapse_onto-requires : goal.collapse_onto-requires
 collapse_onto-requires c =
     let s = c.args in
-    let a = names_below (pair_of s.rows.now (next s.e.0)) s.halfedges (sym (rw (c.next-second.ensures, c.in-At.is) at c.pair_of.ensures)) in
-    let b = names_below (pair_of s.rows.now (next (next s.e.0))) s.halfedges (sym (rw (c.next.ensures, c.next-second.ensures, c.in-At-pair_of.is) at c.pair_of-2.ensures)) in
+    let a = names_below (pair_of s.rows.now (next s.e.0)) s.halfedges (sym (rw (c.next-second.ensures, c.in-Some.is) at c.pair_of.ensures)) in
+    let b = names_below (pair_of s.rows.now (next (next s.e.0))) s.halfedges (sym (rw (c.next.ensures, c.next-second.ensures, c.in-Some-pair_of.is) at c.pair_of-2.ensures)) in
     omega (arith, c.requires.0, c.requires.1.0, c.requires.1.1.0, c.requires.1.1.1)
 
 pub returns : goal.returns
 unfolding collapse
 returns c =
-    (λ p. rw (← c.refused.ensures, c.if-refused.false, ← (rw c.next-second.ensures at c.is_unpaired.ensures), c.if-is_unpaired.false, ← (rw (c.next-second.ensures, c.in-At.is) at c.pair_of.ensures), ← (rw (c.next.ensures, c.next-second.ensures, c.in-At-pair_of.is) at c.pair_of-2.ensures), c.collapse_onto.ensures), refl)
+    (λ p. rw (← c.refused.ensures, c.if-refused.false, ← (rw c.next-second.ensures at c.is_unpaired.ensures), c.if-is_unpaired.false, ← (rw (c.next-second.ensures, c.in-Some.is) at c.pair_of.ensures), ← (rw (c.next.ensures, c.next-second.ensures, c.in-Some-pair_of.is) at c.pair_of-2.ensures), c.collapse_onto.ensures), refl)

@@ -14,9 +14,9 @@ returns-then-number c =
 pub onward-requires : goal.onward-requires
 onward-requires c = omega arith
 
-pub returns-in-Nothing : goal.returns-in-Nothing
-returns-in-Nothing c =
-    reach_off c.args.halfedges c.args.end.0 _ _ _ c.loop-left-test.true (λ e. c.if-number.false (c.number.ensures ∙ e ∙ sym c.number-in-loop-left.ensures)) (rw c.in-Nothing.is at (sym c.onward.ensures)) ∙ c.loop-left.invariant.1
+pub returns-in-None : goal.returns-in-None
+returns-in-None c =
+    reach_off c.args.halfedges c.args.end.0 _ _ _ c.loop-left-test.true (λ e. c.if-number.false (c.number.ensures ∙ e ∙ sym c.number-in-loop-left.ensures)) (rw c.in-None.is at (sym c.onward.ensures)) ∙ c.loop-left.invariant.1
 
 pub overflow_sub-left : goal.overflow_sub-left
 overflow_sub-left c = omega arith
@@ -26,7 +26,7 @@ loop-left-smaller c = omega arith
 
 pub loop-left-preserved : goal.loop-left-preserved
 loop-left-preserved c =
-    let e = rw c.in-At.is at (sym c.onward.ensures) in
+    let e = rw c.in-Some.is at (sym c.onward.ensures) in
     (onward_below _ _ _ e, reach_on c.args.halfedges c.args.end.0 _ _ _ _ c.loop-left-test.true (λ e. c.if-number.false (c.number.ensures ∙ e ∙ sym c.number-in-loop-left.ensures)) e ∙ c.loop-left.invariant.1)
 
 pub returns : goal.returns

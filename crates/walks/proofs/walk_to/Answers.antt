@@ -17,13 +17,13 @@ returns-then-number c =
 pub move_on-requires : goal.move_on-requires
 move_on-requires c = omega arith
 
-pub shape_of-rows-in-Nothing : goal.shape_of-rows-in-Nothing
-shape_of-rows-in-Nothing c = c.move_on.auto.rows ∙ c.loop-left.invariant.1
+pub shape_of-rows-in-None : goal.shape_of-rows-in-None
+shape_of-rows-in-None c = c.move_on.auto.rows ∙ c.loop-left.invariant.1
 
-pub returns-in-Nothing : goal.returns-in-Nothing
-returns-in-Nothing c =
+pub returns-in-None : goal.returns-in-None
+returns-in-None c =
     rw c.move_on.ensures.1
-    (walk_off c.args.halfedges c.args.v.0 c.args.end.0 _ _ _ c.loop-left-test.true (λ e. c.if-number.false (c.number.ensures ∙ e ∙ sym c.number-in-loop-left.ensures)) (rw c.in-Nothing.is at (sym c.move_on.ensures.0)) ∙ c.loop-left.invariant.2)
+    (walk_off c.args.halfedges c.args.v.0 c.args.end.0 _ _ _ c.loop-left-test.true (λ e. c.if-number.false (c.number.ensures ∙ e ∙ sym c.number-in-loop-left.ensures)) (rw c.in-None.is at (sym c.move_on.ensures.0)) ∙ c.loop-left.invariant.2)
 
 pub overflow_sub-left : goal.overflow_sub-left
 overflow_sub-left c = omega arith
@@ -33,7 +33,7 @@ loop-left-smaller c = omega arith
 
 pub loop-left-preserved : goal.loop-left-preserved
 loop-left-preserved c =
-    let e = rw c.in-At.is at (sym c.move_on.ensures.0) in (
+    let e = rw c.in-Some.is at (sym c.move_on.ensures.0) in (
       onward_below _ _ _ e,
       c.move_on.auto.rows ∙ c.loop-left.invariant.1,
       rw c.move_on.ensures.1

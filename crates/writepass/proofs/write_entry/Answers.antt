@@ -29,7 +29,7 @@ returns-in_default c =
     entry_named args.halfedges args.vertices args.k args.x (written args.rows.now args.positions.now args.visit.now args.added) large nothing (ap (λ k. names (start_of args.rows.now k) args.vertices) (sym at_halfedge_counted.ensures) ∙ sym c.start_of.ensures ∙ ap vertex_named c.in_default.is)
 
 pub overflow_add-vertices : goal.overflow_add-vertices
-overflow_add-vertices c = omega (arith, (c.requires.room (let g : copy_bit ≤ c.args.x = omega (arith, c.if-x-lt-COPY.false) in g) _ (ap (λ k. names (start_of c.args.rows.now k) c.args.vertices) (sym c.halfedge_counted-i.ensures) ∙ sym c.start_of.ensures ∙ ap vertex_named c.in-At.is)), capacity_most c.args.positions.now)
+overflow_add-vertices c = omega (arith, (c.requires.room (let g : copy_bit ≤ c.args.x = omega (arith, c.if-x-lt-COPY.false) in g) _ (ap (λ k. names (start_of c.args.rows.now k) c.args.vertices) (sym c.halfedge_counted-i.ensures) ∙ sym c.start_of.ensures ∙ ap vertex_named c.in-Some.is)), capacity_most c.args.positions.now)
 
 pub copy_fan-requires : goal.copy_fan-requires
 copy_fan-requires c =
@@ -38,7 +38,7 @@ copy_fan-requires c =
     let at_if1 = c.if-x-lt-COPY in
     let at_halfedge_counted = c.halfedge_counted-i in
     let at_start_of = c.start_of in
-    let at_v = c.in-At in
+    let at_v = c.in-Some in
     let large : copy_bit ≤ args.x = omega (arith, at_if1.false) in
     let named = ap (λ k. names (start_of args.rows.now k) args.vertices) (sym at_halfedge_counted.ensures) ∙ sym at_start_of.ensures ∙ ap vertex_named at_v.is in
     let free = pre.room large _ named in
@@ -51,7 +51,7 @@ overflow_add-result c =
     let at_if1 = c.if-x-lt-COPY in
     let at_halfedge_counted = c.halfedge_counted-i in
     let at_start_of = c.start_of in
-    let at_v = c.in-At in
+    let at_v = c.in-Some in
     let large : copy_bit ≤ args.x = omega (arith, at_if1.false) in
     omega (arith, (pre.room large _ (ap (λ k. names (start_of args.rows.now k) args.vertices) (sym at_halfedge_counted.ensures) ∙ sym at_start_of.ensures ∙ ap vertex_named at_v.is)), capacity_most args.positions.now)
 
@@ -61,7 +61,7 @@ returns c =
     let at_if1 = c.if-x-lt-COPY in
     let at_halfedge_counted = c.halfedge_counted-i in
     let at_start_of = c.start_of in
-    let at_v = c.in-At in
+    let at_v = c.in-Some in
     let at_copy_fan = c.copy_fan in
     let large : copy_bit ≤ args.x = omega (arith, at_if1.false) in
     let p = at_copy_fan.ensures.0 ∙ ap (λ k. relabel_walk (args.vertices + args.added) (walk (turn args.rows.now) args.halfedges k k) args.rows.now) at_halfedge_counted.ensures in

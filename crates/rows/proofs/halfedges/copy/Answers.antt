@@ -4,4 +4,4 @@ use Rattle.rows.proofs.halfedges.copy.Goals as goal
 
 pub returns : goal.returns
 unfolding over_rows
-returns c = c.copy_i32.ensures
+returns c = c.copy.ensures

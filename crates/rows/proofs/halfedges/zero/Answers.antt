@@ -4,4 +4,4 @@ use Rattle.rows.proofs.halfedges.zero.Goals as goal
 
 pub returns : goal.returns
 unfolding zero_rows
-returns c = c.zero_i32.ensures
+returns c = c.fill.ensures

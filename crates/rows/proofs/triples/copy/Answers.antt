@@ -4,4 +4,4 @@ use Rattle.rows.proofs.triples.copy.Goals as goal
 
 pub returns : goal.returns
 unfolding over_triples
-returns c = c.copy_u64.ensures
+returns c = c.copy.ensures

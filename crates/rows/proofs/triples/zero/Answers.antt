@@ -4,4 +4,4 @@ use Rattle.rows.proofs.triples.zero.Goals as goal
 
 pub returns : goal.returns
 unfolding zero_triples
-returns c = c.zero_u64.ensures
+returns c = c.fill.ensures

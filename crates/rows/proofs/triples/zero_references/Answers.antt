@@ -4,4 +4,4 @@ use Rattle.rows.proofs.triples.zero_references.Goals as goal
 
 pub returns : goal.returns
 unfolding zero_references
-returns c = c.zero_i32.ensures
+returns c = c.fill.ensures
