@@ -24,20 +24,14 @@ pub fn reaches(rows: &[i32], halfedges: usize, start: Halfedge, end: Halfedge) -
     ensures { result ≡ reaches halfedges halfedges (halfedge_number start) (halfedge_number end) rows.now }
 {
     let mut at = start;
-    let mut left = halfedges;
-    while 0 < left {
+    for _ in 0..halfedges {
         if at == end {
             return true;
         }
-        match onward(rows, halfedges, at) {
-            Some(h) => {
-                at = h;
-            }
-            None => {
-                return false;
-            }
-        }
-        left -= 1;
+        let Some(h) = onward(rows, halfedges, at) else {
+            return false;
+        };
+        at = h;
     }
     at == end
 }
@@ -65,20 +59,14 @@ pub fn walk_to(
     ensures { walked result rows.new ≡ walk_to halfedges halfedges (vertex_number v) (halfedge_number start) (halfedge_number end) rows.old }
 {
     let mut at = start;
-    let mut left = halfedges;
-    while 0 < left {
+    for _ in 0..halfedges {
         if at == end {
             return true;
         }
-        match move_on(rows, halfedges, v, at) {
-            Some(h) => {
-                at = h;
-            }
-            None => {
-                return false;
-            }
-        }
-        left -= 1;
+        let Some(h) = move_on(rows, halfedges, v, at) else {
+            return false;
+        };
+        at = h;
     }
     at == end
 }
