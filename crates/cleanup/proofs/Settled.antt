@@ -5,7 +5,7 @@ use Prim.Native.Nat.{ℕ}
 use lib.IntN.{ℤ}
 use Rattle.answers.specs.Answers.{Said}
 use Rattle.splitting.specs.Split.{SplitOutcome, split_outcome}
-use Rattle.steps.specs.declared.Run.{Run}
+use Rattle.steps.specs.Run.{Run}
 use Rattle.steps.specs.Steps.{middle}
 use Rattle.growth.specs.declared.Limits.{Limits}
 use Rattle.rows.specs.Halfedges.{over_rows}

@@ -12,7 +12,7 @@ use Rattle.net.specs.Counts.{is_shaped}
 use Rattle.soundness.specs.Check.{sound_or}
 use Rattle.rowtests.specs.Order.{least_out}
 use Rattle.splitting.specs.Split.{SplitOutcome, split_sound}
-use Rattle.steps.specs.declared.Run.{Run}
+use Rattle.steps.specs.Run.{Run}
 use Rattle.steps.specs.Steps.{middle, begun_run, ended_run, NoRoom}
 use Rattle.steps.specs.Entries.{past}
 use Rattle.growth.specs.declared.Limits.{Limits}

@@ -10,7 +10,7 @@ use Rattle.net.specs.Net.{Net}
 use Rattle.net.specs.Counts.{is_shaped, is_long, spare_holds, halfedge_capacity, vertex_capacity_over}
 use Rattle.soundness.specs.Check.{sound_or}
 use Rattle.rowtests.specs.Order.{least_out}
-use Rattle.steps.specs.declared.Run.{Run}
+use Rattle.steps.specs.Run.{Run}
 use Rattle.steps.specs.Steps.{Middle, Stopped, begin, ended, how_said}
 use Rattle.steps.specs.Settle.{settled}
 use Rattle.steps.specs.Entries.{past}

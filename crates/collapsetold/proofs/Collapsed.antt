@@ -20,8 +20,8 @@ use Rattle.net.specs.Sound.{start_vertex, end_vertex, partner, Empty, DeadRow, L
 use Rattle.net.proofs.Sound.{live_row, next_live, partner_live, pair_involution, partner_inj}
 use Rattle.turning.specs.Fan.{iter}
 use Rattle.turning.proofs.Orbit.{period, soon, reach_sym}
-use Rattle.steps.specs.declared.How.{How}
-use Rattle.steps.specs.declared.How.TheVariants as W
+use Rattle.steps.specs.Run.{How}
+use Rattle.steps.specs.Run as W
 use Rattle.steps.specs.Steps.{Middle, middle, running, is_refused, refused, begin}
 use Rattle.triangles.specs.Triangles.{collapsed, collapse, Outside}
 use Rattle.triangles.specs.Triangles as T

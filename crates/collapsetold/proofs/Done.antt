@@ -22,9 +22,9 @@ use Rattle.net.specs.Counts.{halfedge_capacity, vertex_capacity_over}
 use Rattle.net.specs.Sound.{start_vertex, end_vertex, partner, Live, Sound}
 use Rattle.net.proofs.Shape.{Within, within, shaped_with}
 use Rattle.net.proofs.Sound.{live_row, next_live, partner_live}
-use Rattle.steps.specs.declared.How.{How}
-use Rattle.steps.specs.declared.How.TheVariants as W
-use Rattle.steps.specs.declared.Run.{Run}
+use Rattle.steps.specs.Run.{How}
+use Rattle.steps.specs.Run as W
+use Rattle.steps.specs.Run.{Run}
 use Rattle.steps.specs.Steps.{Middle, begin, running, Going, is_refused, refused, how_said}
 use Rattle.steps.specs.Settle.{settled}
 use Rattle.walks.specs.Walk.{onward}

@@ -30,8 +30,8 @@ use Rattle.net.specs.Sound.{start_vertex, end_vertex, partner, InOrder, Live, So
 use Rattle.net.proofs.Shape.{shaped_true}
 use Rattle.net.proofs.Sound.{live_paired, live_row, partner_live, next_live}
 use Rattle.soundness.specs.Check.{sound_or}
-use Rattle.steps.specs.declared.How.{How}
-use Rattle.steps.specs.declared.How.TheVariants as W
+use Rattle.steps.specs.Run.{How}
+use Rattle.steps.specs.Run as W
 use Rattle.steps.specs.Steps.{begin, refused, how_said}
 use Rattle.steps.specs.Entries.{past}
 use Rattle.judging.specs.declared.Tolerance.{Tolerance}

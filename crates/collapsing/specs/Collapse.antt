@@ -4,7 +4,7 @@ use Rattle.std.specs.Prelude.{Bool, cond, List, ℕ, ◌≤◌, ℤ, length}
 use Rattle.answers.specs.Answers.{Said, long}
 use Rattle.numbers.specs.Numbers.{named_or}
 use Rattle.numbers.specs.Next.{next}
-use Rattle.steps.specs.declared.Run.{Run}
+use Rattle.steps.specs.Run.{Run}
 use Rattle.steps.specs.Steps.{Middle, middle, refused, Stopped, ended}
 use Rattle.walks.specs.Walk.{onward, update}
 use Rattle.triangles.specs.Triangles.{collapse}

@@ -7,7 +7,7 @@ ghost use Rattle.numbers.specs.Numbers.{halfedge_number, vertex_number};
 ghost use Rattle.numbers.specs.Next.{next};
 ghost use Rattle.rows.specs.Halfedges.{lent_halfedges};
 ghost use Rattle.rows.specs.Triples.{lent_triples};
-ghost use Rattle.steps.specs.declared.Run.{Run};
+ghost use Rattle.steps.specs.Run.{Run};
 ghost use Rattle.steps.specs.Steps.{middle, InUse, VerticesIn};
 ghost use Rattle.rings.specs.Ring.{ring};
 ghost use Rattle.spinning.specs.Spin.{Around, spun_to};

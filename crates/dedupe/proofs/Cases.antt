@@ -10,7 +10,7 @@ use Rattle.numbers.specs.Next.{next}
 use Rattle.rows.specs.Halfedges.{column, set_column, append_row, append_triangle, zero_rows}
 use Rattle.rows.specs.Triples.{triple, put_triple, reference, put_reference, zero_triples, zero_references}
 use Rattle.pairing.specs.Pairing.{paired}
-use Rattle.steps.specs.declared.How.{How}
+use Rattle.steps.specs.Run.{How}
 use Rattle.steps.specs.Steps.{middle, running, begin, Going, NoRoom, Stopped}
 use Rattle.walks.specs.Walk.{onward, moved, walk_to, update}
 use Rattle.loops.specs.Loops.{append}

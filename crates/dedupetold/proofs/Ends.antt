@@ -21,8 +21,8 @@ use Rattle.net.proofs.Shape.{shaped_true}
 use Rattle.soundness.specs.Check.{sound_or, check_net}
 use Rattle.rowtests.specs.Order.{least_out}
 use Rattle.soundness.proofs.Told.{check_sound}
-use Rattle.steps.specs.declared.How.{How}
-use Rattle.steps.specs.declared.How.TheVariants as W
+use Rattle.steps.specs.Run.{How}
+use Rattle.steps.specs.Run as W
 use Rattle.steps.specs.Steps.{NoRoom, middle, running, is_refused}
 use Rattle.growth.specs.declared.Limits.{Limits}
 use Rattle.growth.specs.Growth.{Growing, growing, rows_of, halted, settled}

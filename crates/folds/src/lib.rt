@@ -6,13 +6,13 @@ ghost use Rattle.std.specs.Prelude.{◌≡◌, List, ℕ, ◌<◌};
 ghost use Rattle.numbers.specs.Next.{next};
 ghost use Rattle.numbers.specs.Numbers.{halfedge_number};
 ghost use Rattle.rows.specs.Halfedges.{lent_halfedges};
-ghost use Rattle.steps.specs.Steps.{middle, InUse, VerticesIn};
-ghost use Rattle.folds.specs.Folds.{beyond, lose, lose_folded, has_pair, outer_paired, join, gone_row, clear, take_out, fold_at, fold};
+ghost use Rattle.steps.specs.Steps.{middle, begin, run_after, InUse, VerticesIn};
+ghost use Rattle.folds.specs.Folds.{lose, lose_folded, has_pair, outer_paired, join, gone_row, gone_rows, take_out, fold_at, fold};
 ghost use Rattle.folds.specs.Triangles.{rows_of, RowsIn};
 
 use numbers::Halfedge;
 use rows::triples::Bits3;
-use steps::Run;
+use steps::Stop;
 
 const NAN: u64 = 0x7FF8_0000_0000_0000;
 
@@ -27,35 +27,29 @@ struct Folded {
     f2: Halfedge,
 }
 
-// Where the start of h names no vertex in use: nothing where it is below 0; the steps stop where it is beyond.
-fn beyond(rows: &[i32], run: Run, h: Halfedge) -> Run
-    requires { halfedge_number h < lent_halfedges rows.now }
-    ensures { ((p : List ℕ) → middle rows.now p result ≡ beyond (halfedge_number h) (middle rows.now p run)) × (result.vertices ≡ run.vertices) }
-{
-    if edgetests::is_started(rows, h) {
-        return steps::stopped(run);
-    }
-    run
-}
-
 // The step that loses the start of h: nothing where that is below 0; it stops where that is beyond the vertices.
-pub fn lose_step(rows: &[i32], positions: &mut [u64], run: Run, h: Halfedge) -> Run
-    requires { (halfedge_number h < lent_halfedges rows.now) × VerticesIn run.vertices positions.old }
-    ensures { (middle rows.now positions.new result ≡ lose (halfedge_number h) (middle rows.now positions.old run)) × (result.vertices ≡ run.vertices) }
+pub fn lose_step(
+    rows: &[i32],
+    positions: &mut [u64],
+    vertices: usize,
+    h: Halfedge,
+) -> Result<(), Stop>
+    requires { (halfedge_number h < lent_halfedges rows.now) × VerticesIn vertices positions.old }
+    ensures { middle rows.now positions.new (run_after vertices result) ≡ lose (halfedge_number h) (begin rows.now positions.old vertices) }
 {
-    if steps::refused(run) {
-        return run;
+    match rows::halfedges::start_of(rows, h, vertices) {
+        Some(v) => {
+            let nan = Bits3 {
+                x: NAN,
+                y: NAN,
+                z: NAN,
+            };
+            rows::triples::set_position(positions, v, nan);
+            Ok(())
+        }
+        None if edgetests::is_started(rows, h) => Err(Stop::Stopped),
+        None => Ok(()),
     }
-    let Some(v) = rows::halfedges::start_of(rows, h, run.vertices) else {
-        return beyond(rows, run, h);
-    };
-    let nan = Bits3 {
-        x: NAN,
-        y: NAN,
-        z: NAN,
-    };
-    rows::triples::set_position(positions, v, nan);
-    run
 }
 
 // h is paired with p.
@@ -70,23 +64,23 @@ fn is_pair(rows: &[i32], halfedges: usize, h: Halfedge, p: Halfedge) -> bool
 fn lose_folded(
     rows: &[i32],
     positions: &mut [u64],
-    run: Run,
+    vertices: usize,
     first: bool,
     second: bool,
     t: Folded,
-) -> Run
-    requires { RowsIn (lent_halfedges rows.now) (rows_of t) × VerticesIn run.vertices positions.old }
-    ensures { (middle rows.now positions.new result ≡ lose_folded first second (rows_of t).e (rows_of t).e1 (rows_of t).e2 (rows_of t).f1 (middle rows.now positions.old run)) × (result.vertices ≡ run.vertices) }
+) -> Result<(), Stop>
+    requires { RowsIn (lent_halfedges rows.now) (rows_of t) × VerticesIn vertices positions.old }
+    ensures { middle rows.now positions.new (run_after vertices result) ≡ lose_folded first second (rows_of t).e (rows_of t).e1 (rows_of t).e2 (rows_of t).f1 (begin rows.now positions.old vertices) }
 {
     if !first {
-        return lose_step(rows, positions, run, t.f1);
+        return lose_step(rows, positions, vertices, t.f1);
     }
     if !second {
-        return lose_step(rows, positions, run, t.e1);
+        return lose_step(rows, positions, vertices, t.e1);
     }
-    let once = lose_step(rows, positions, run, t.e);
-    let twice = lose_step(rows, positions, once, t.e1);
-    lose_step(rows, positions, twice, t.e2)
+    lose_step(rows, positions, vertices, t.e)?;
+    lose_step(rows, positions, vertices, t.e1)?;
+    lose_step(rows, positions, vertices, t.e2)
 }
 
 // a and d are paired, and b and c.
@@ -99,27 +93,16 @@ fn join_rows(rows: &mut [i32], halfedges: usize, a: Halfedge, b: Halfedge, c: Ha
 }
 
 // The step that pairs the outer partners: of e1 and f2, and of e2 and f1. It stops where one of them isn't there.
-fn join_step(rows: &mut [i32], halfedges: usize, run: Run, t: Folded) -> Run
+fn join_step(rows: &mut [i32], halfedges: usize, t: Folded) -> Result<(), Stop>
     requires { RowsIn halfedges (rows_of t) × InUse halfedges rows.old }
-    ensures { ((p : List ℕ) → middle rows.new p result ≡ join halfedges (rows_of t).e1 (rows_of t).e2 (rows_of t).f1 (rows_of t).f2 (middle rows.old p run)) × (result.vertices ≡ run.vertices) }
+    ensures { (p : List ℕ) (n : ℕ) → middle rows.new p (run_after n result) ≡ join halfedges (rows_of t).e1 (rows_of t).e2 (rows_of t).f1 (rows_of t).f2 (begin rows.old p n) }
 {
-    if steps::refused(run) {
-        return run;
-    }
-    let Some(a) = rows::halfedges::pair_of(rows, t.e1, halfedges) else {
-        return steps::stopped(run);
-    };
-    let Some(b) = rows::halfedges::pair_of(rows, t.e2, halfedges) else {
-        return steps::stopped(run);
-    };
-    let Some(c) = rows::halfedges::pair_of(rows, t.f1, halfedges) else {
-        return steps::stopped(run);
-    };
-    let Some(d) = rows::halfedges::pair_of(rows, t.f2, halfedges) else {
-        return steps::stopped(run);
-    };
+    let a = steps::pair_of(rows, t.e1, halfedges)?;
+    let b = steps::pair_of(rows, t.e2, halfedges)?;
+    let c = steps::pair_of(rows, t.f1, halfedges)?;
+    let d = steps::pair_of(rows, t.f2, halfedges)?;
     join_rows(rows, halfedges, a, b, c, d);
-    run
+    Ok(())
 }
 
 // Empties a row, its prop too.
@@ -131,18 +114,14 @@ fn clear_row(rows: &mut [i32], h: Halfedge)
     rows::halfedges::empty_prop(rows, h);
 }
 
-// The step that empties three rows, their props too.
-fn clear_step(rows: &mut [i32], run: Run, e: Halfedge, e1: Halfedge, e2: Halfedge) -> Run
+// Empties three rows, their props too.
+fn clear_rows(rows: &mut [i32], e: Halfedge, e1: Halfedge, e2: Halfedge)
     requires { (halfedge_number e < lent_halfedges rows.old) × ((halfedge_number e1 < lent_halfedges rows.old) × (halfedge_number e2 < lent_halfedges rows.old)) }
-    ensures { ((p : List ℕ) → middle rows.new p result ≡ clear (halfedge_number e) (halfedge_number e1) (halfedge_number e2) (middle rows.old p run)) × (result.vertices ≡ run.vertices) }
+    ensures { rows.new ≡ gone_rows (halfedge_number e) (halfedge_number e1) (halfedge_number e2) rows.old }
 {
-    if steps::refused(run) {
-        return run;
-    }
     clear_row(rows, e);
     clear_row(rows, e1);
     clear_row(rows, e2);
-    run
 }
 
 // Takes the two triangles out.
@@ -150,18 +129,19 @@ fn take_out(
     rows: &mut [i32],
     positions: &mut [u64],
     halfedges: usize,
-    run: Run,
+    vertices: usize,
     first: bool,
     second: bool,
     t: Folded,
-) -> Run
-    requires { RowsIn halfedges (rows_of t) × (InUse halfedges rows.old × VerticesIn run.vertices positions.old) }
-    ensures { (middle rows.new positions.new result ≡ take_out halfedges first second (rows_of t) (middle rows.old positions.old run)) × (result.vertices ≡ run.vertices) }
+) -> Result<(), Stop>
+    requires { RowsIn halfedges (rows_of t) × (InUse halfedges rows.old × VerticesIn vertices positions.old) }
+    ensures { middle rows.new positions.new (run_after vertices result) ≡ take_out halfedges first second (rows_of t) (begin rows.old positions.old vertices) }
 {
-    let lost = lose_folded(rows, positions, run, first, second, t);
-    let joined = join_step(rows, halfedges, lost, t);
-    let cleared = clear_step(rows, joined, t.e, t.e1, t.e2);
-    clear_step(rows, cleared, t.f, t.f1, t.f2)
+    lose_folded(rows, positions, vertices, first, second, t)?;
+    join_step(rows, halfedges, t)?;
+    clear_rows(rows, t.e, t.e1, t.e2);
+    clear_rows(rows, t.f, t.f1, t.f2);
+    Ok(())
 }
 
 // Takes the two triangles out where they have folded: they have the same opposite vertex and meet again.
@@ -169,12 +149,12 @@ fn fold_at(
     rows: &mut [i32],
     positions: &mut [u64],
     halfedges: usize,
-    run: Run,
+    vertices: usize,
     e: Halfedge,
     f: Halfedge,
-) -> Run
-    requires { ((halfedge_number e < halfedges) × (halfedge_number f < halfedges)) × (InUse halfedges rows.old × VerticesIn run.vertices positions.old) }
-    ensures { (middle rows.new positions.new result ≡ fold_at halfedges (halfedge_number e) (halfedge_number f) (middle rows.old positions.old run)) × (result.vertices ≡ run.vertices) }
+) -> Result<(), Stop>
+    requires { ((halfedge_number e < halfedges) × (halfedge_number f < halfedges)) × (InUse halfedges rows.old × VerticesIn vertices positions.old) }
+    ensures { middle rows.new positions.new (run_after vertices result) ≡ fold_at halfedges (halfedge_number e) (halfedge_number f) (begin rows.old positions.old vertices) }
 {
     let e1 = e.next();
     let e2 = e1.next();
@@ -183,7 +163,7 @@ fn fold_at(
     let first = is_pair(rows, halfedges, e1, f2);
     let second = is_pair(rows, halfedges, e2, f1);
     if !(edgetests::same_end(rows, e1, f1) & (first | second)) {
-        return run;
+        return Ok(());
     }
     let t = Folded {
         e,
@@ -193,7 +173,7 @@ fn fold_at(
         f1,
         f2,
     };
-    take_out(rows, positions, halfedges, run, first, second, t)
+    take_out(rows, positions, halfedges, vertices, first, second, t)
 }
 
 // The step of remove_if_folded: nothing at an edge without pair, or where its second row's pair is −1.
@@ -201,20 +181,15 @@ pub fn fold_step(
     rows: &mut [i32],
     positions: &mut [u64],
     halfedges: usize,
-    run: Run,
+    vertices: usize,
     e: Halfedge,
-) -> Run
-    requires { (halfedge_number e < halfedges) × (InUse halfedges rows.old × VerticesIn run.vertices positions.old) }
-    ensures { (middle rows.new positions.new result ≡ fold halfedges (halfedge_number e) (middle rows.old positions.old run)) × (result.vertices ≡ run.vertices) }
+) -> Result<(), Stop>
+    requires { (halfedge_number e < halfedges) × (InUse halfedges rows.old × VerticesIn vertices positions.old) }
+    ensures { middle rows.new positions.new (run_after vertices result) ≡ fold halfedges (halfedge_number e) (begin rows.old positions.old vertices) }
 {
-    if steps::refused(run) {
-        return run;
-    }
     if !edgetests::is_paired(rows, e) | edgetests::is_unpaired(rows, e.next()) {
-        return run;
+        return Ok(());
     }
-    let Some(f) = rows::halfedges::pair_of(rows, e, halfedges) else {
-        return steps::stopped(run);
-    };
-    fold_at(rows, positions, halfedges, run, e, f)
+    let f = steps::pair_of(rows, e, halfedges)?;
+    fold_at(rows, positions, halfedges, vertices, e, f)
 }

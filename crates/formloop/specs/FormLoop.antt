@@ -9,7 +9,7 @@ use Rattle.net.specs.Net.{Net}
 use Rattle.net.specs.Counts.{is_shaped, spare_holds, vertex_capacity_over}
 use Rattle.soundness.specs.Check.{sound_or}
 use Rattle.rowtests.specs.Order.{least_out}
-use Rattle.steps.specs.declared.Run.{Run}
+use Rattle.steps.specs.Run.{Run}
 use Rattle.steps.specs.Steps.{Middle, begin, how_said}
 use Rattle.steps.specs.Settle.{settled}
 use Rattle.steps.specs.Entries.{past}

@@ -8,7 +8,7 @@ use lib.IntN.{ℤ}
 use Rattle.numbers.specs.Numbers.{at, nothing, names}
 use Rattle.rows.specs.Halfedges.{pair_of, append_triangle}
 use Rattle.pairing.specs.Pairing.{paired}
-use Rattle.steps.specs.declared.Run.{Run}
+use Rattle.steps.specs.Run.{Run}
 use Rattle.steps.specs.Steps.{middle, running, is_refused, NoRoom, Stopped}
 use Rattle.growth.specs.declared.Limits.{Limits}
 use Rattle.growth.specs.Growth.{growing, add, join}

@@ -6,7 +6,7 @@ use Rattle.rows.specs.Halfedges.{pair_of, append_triangle, zero_rows, lent_halfe
 use Rattle.rows.specs.Triples.{triple, put_triple, reference, put_reference, zero_triples, zero_references, lent_triples}
 use Rattle.net.specs.Counts.{most_vertices}
 use Rattle.pairing.specs.Pairing.{paired}
-use Rattle.steps.specs.declared.Run.{Run}
+use Rattle.steps.specs.Run.{Run}
 use Rattle.steps.specs.Steps.{Middle, middle, refused, NoRoom, Stopped, ended, with_rows}
 use Rattle.walks.specs.Walk.{onward, moved, update}
 use Rattle.loops.specs.Loops.{append}

@@ -4,9 +4,9 @@ use Rattle.numbers.specs.Numbers.{names, named_or}
 use Rattle.net.specs.declared.Counts.{Counts}
 use Rattle.net.specs.Net.{Net}
 use Rattle.net.specs.Counts.{is_shaped, is_long, vertex_capacity_over}
-use Rattle.steps.specs.declared.How.{How}
-use Rattle.steps.specs.declared.How.TheVariants as H
-use Rattle.steps.specs.declared.Run.{Run}
+use Rattle.steps.specs.Run.{How}
+use Rattle.steps.specs.Run as H
+use Rattle.steps.specs.Run.{Run}
 use Rattle.steps.specs.Steps.{Middle, begin}
 use Rattle.triangles.specs.Triangles.{collapse}
 use Rattle.walks.specs.Walk.{update}

@@ -18,7 +18,7 @@ use Rattle.net.specs.Counts.{most_vertices}
 use Rattle.net.specs.Sound.{start_vertex, end_vertex, partner, InOrder, Live}
 use Rattle.net.proofs.Sound.{live_row, partner_live}
 use Rattle.pairing.specs.Pairing.{paired}
-use Rattle.steps.specs.declared.Run.{Run}
+use Rattle.steps.specs.Run.{Run}
 use Rattle.steps.specs.Steps.{Middle, running, refused, Going, NoRoom, Stopped, begin, ended}
 use Rattle.walks.specs.Walk.{walk_to, update}
 use Rattle.walks.specs.Way.{Reached}

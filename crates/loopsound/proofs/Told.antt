@@ -27,8 +27,8 @@ use Rattle.net.proofs.Sound.{live_paired, paired_live}
 use Rattle.soundness.specs.Check.{sound_or, check_net}
 use Rattle.rowtests.specs.Order.{least_out}
 use Rattle.soundness.proofs.Told.{check_sound}
-use Rattle.steps.specs.declared.How.{How}
-use Rattle.steps.specs.declared.How.TheVariants as W
+use Rattle.steps.specs.Run.{How}
+use Rattle.steps.specs.Run as W
 use Rattle.steps.specs.Steps.{Middle, refused, is_refused, begin, how_said}
 use Rattle.walks.specs.Way.{Reached}
 use Rattle.loops.specs.Loops.{loop_at}

@@ -17,8 +17,8 @@ use Rattle.net.specs.declared.Counts.{Counts}
 use Rattle.net.specs.Net.{Net}
 use Rattle.net.specs.Counts.{spare_holds, vertex_capacity_over}
 use Rattle.soundness.specs.Check.{sound_or}
-use Rattle.steps.specs.declared.How.{How}
-use Rattle.steps.specs.declared.How.TheVariants as W
+use Rattle.steps.specs.Run.{How}
+use Rattle.steps.specs.Run as W
 use Rattle.steps.specs.Steps.{begin, refused, how_said}
 use Rattle.steps.specs.Entries.{past}
 use Rattle.pairing.specs.Pairing.{pair_named, pair_up}

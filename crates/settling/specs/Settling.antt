@@ -6,8 +6,8 @@ use Rattle.rows.specs.Triples.{lent_triples, zero_triples, zero_references}
 use Rattle.net.specs.declared.Counts.{Counts}
 use Rattle.net.specs.Net.{Net}
 use Rattle.net.specs.Counts.{halfedge_capacity_over, vertex_capacity_over}
-use Rattle.steps.specs.declared.How.{How}
-use Rattle.steps.specs.declared.How.TheVariants as W
+use Rattle.steps.specs.Run.{How}
+use Rattle.steps.specs.Run as W
 use Rattle.steps.specs.Steps.{begun_run, begin, with_rows}
 use Rattle.steps.specs.Settle as S
 use Rattle.growth.specs.declared.Grown.{Grown}

@@ -14,7 +14,7 @@ use Rattle.rows.specs.Halfedges.{lent_halfedges, rows_from, over_rows}
 use Rattle.rows.specs.Triples.{lent_triples, triples_from, over_triples, zero_triples}
 use Rattle.rows.proofs.Columns.{laid_back}
 use Rattle.rows.proofs.Threes.{triples_more, laid_back_zeroed}
-use Rattle.steps.specs.declared.How.{How}
+use Rattle.steps.specs.Run.{How}
 use Rattle.steps.specs.Steps.{Middle, middle, running, refused, begin, ended, with_positions}
 use Rattle.steps.specs.Settle.{settled, settled_by}
 

@@ -1,13 +1,17 @@
 -- A net in the middle of an operation: its half-edge rows and positions, how many vertices are in use, and whether the steps go on.
-use Rattle.std.specs.Prelude.{Bool, true, false, List, [], ◌∷◌, ◌≡◌, ℕ, ◌%◌, ◌≤◌, ℤ, pos}
+use Rattle.std.specs.Prelude.{⊤, Result, Ok, Err, Bool, true, false, List, [], ◌∷◌, ◌≡◌, ℕ, ◌%◌, ◌≤◌, ℤ, pos}
 use Rattle.answers.specs.Answers.{Said, whole, done, no_room, stopped}
 use Rattle.numbers.specs.Next.{most_halfedges}
 use Rattle.rows.specs.Halfedges.{lent_halfedges}
 use Rattle.rows.specs.Triples.{lent_triples}
 use Rattle.net.specs.Counts.{most_vertices}
-use Rattle.steps.specs.declared.How.{How}
-use Rattle.steps.specs.declared.How.TheVariants as H
-use Rattle.steps.specs.declared.Run.{Run}
+use Rattle.steps.specs.Run.{How}
+use Rattle.steps.specs.Run as H
+use Rattle.steps.specs.Run.{Run}
+use Rattle.steps.specs.declared.Stop.{Stop}
+use Rattle.steps.specs.declared.Stop.TheVariants as S
+use Rattle.refused.specs.declared.Refusal.{Refusal}
+use Rattle.refused.specs.declared.Refusal.TheVariants as R
 
 pub record Middle : Type 0 where
   pub halfedges : List ℤ
@@ -70,6 +74,20 @@ how_said vertices H.Stopped = stopped
 
 abbrev pub run_said : Run → Said
 run_said r = how_said r.vertices r.how
+
+-- how the steps run after one that began with so many vertices in use, or left so many
+abbrev pub how_after : Result ⊤ Stop → How
+how_after (Ok x) = Going
+how_after (Err S.NoRoom) = NoRoom
+how_after (Err S.Stopped) = Stopped
+
+abbrev pub run_after : ℕ → Result ⊤ Stop → Run
+run_after vertices went = running vertices (how_after went)
+
+-- what an entry says where the steps stop
+abbrev pub refusal_of : Stop → Refusal
+refusal_of S.NoRoom = R.NoRoom
+refusal_of S.Stopped = R.Stopped
 
 -- H half-edge rows are in use, in whole triangles, and lent; N positions are
 abbrev pub InUse : ℕ → List ℤ → Type 0

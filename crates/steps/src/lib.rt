@@ -1,91 +1,63 @@
-// Steps of an operation that may be refused in the middle. What a step needs to know of those before it travels by value: how
-// many vertices are in use, and whether the steps go on. A step does nothing where an earlier one has refused, so an operation
-// is a plain row of steps, and one function at its end puts back what a refusal must put back.
+// Steps of an operation that may be refused in the middle: a step says by its `Result` whether it went, and `?` hands a stop on. What the
+// steps before it wrote stays until the end, where one function puts back what a refusal must put back.
 #![tactic(auto)]
 
-ghost use Rattle.std.specs.Prelude.{◌≡◌, ◌≤◌};
-ghost use Rattle.refused.specs.Refused.{count_said};
-ghost use Rattle.rows.specs.Halfedges.{lent_halfedges};
+ghost use Rattle.std.specs.Prelude.{◌≡◌, ◌<◌, ◌≤◌, IfOk, IfErr};
+ghost use Rattle.numbers.specs.Numbers.{at, nothing, names, halfedge_number, vertex_number};
+ghost use Rattle.rows.specs.Halfedges.{start_of, end_of, pair_of, lent_halfedges};
 ghost use Rattle.rows.specs.Triples.{lent_triples};
-ghost use Rattle.steps.specs.Steps.{middle, begun_run, with_vertices, ended_run, NoRoom, Stopped, is_refused, run_said};
+ghost use Rattle.steps.specs.Steps.{middle, run_after, refusal_of};
 ghost use Rattle.steps.specs.Settle.{settled_by};
 
+use numbers::{Halfedge, Vertex};
 use refused::Refusal;
 
-// Whether the steps go on: the next append would pass a capacity; a row isn't there, or a walk never ends.
+// Why the steps stop: the next append would pass a capacity; a row isn't there, or a walk never ends.
 #[derive(Clone, Copy)]
-pub enum How {
-    Going,
+pub enum Stop {
     NoRoom,
     Stopped,
 }
 
-// The vertices in use so far, and whether the steps go on.
-#[derive(Clone, Copy)]
-pub struct Run {
-    pub vertices: usize,
-    pub how: How,
-}
+impl From<Stop> for Refusal {
+    ghost from_gives = { λ stop refusal. refusal ≡ refusal_of stop };
 
-// Steps that begin.
-pub fn begun(vertices: usize) -> Run
-    ensures { result ≡ begun_run vertices }
-{
-    Run {
-        vertices,
-        how: How::Going,
+    fn from(stop: Stop) -> Refusal {
+        match stop {
+            Stop::NoRoom => Refusal::NoRoom,
+            Stop::Stopped => Refusal::Stopped,
+        }
     }
 }
 
-// The same steps, with so many vertices in use.
-pub fn with_vertices(run: Run, vertices: usize) -> Run
-    ensures { result ≡ with_vertices vertices run }
+// The partner of h: the steps stop where it isn't there.
+pub fn pair_of(rows: &[i32], h: Halfedge, halfedges: usize) -> Result<Halfedge, Stop>
+    requires { halfedge_number h < lent_halfedges rows.now }
+    ensures there { IfOk result (λ p. (names (pair_of rows.now (halfedge_number h)) halfedges ≡ at (halfedge_number p)) × (halfedge_number p < halfedges)) }
+    ensures missing { IfErr result (λ stop. (names (pair_of rows.now (halfedge_number h)) halfedges ≡ nothing) × (stop ≡ Stop.Stopped)) }
 {
-    Run { vertices, ..run }
+    rows::halfedges::pair_of(rows, h, halfedges).ok_or(Stop::Stopped)
 }
 
-// The steps stop here: a row isn't there, or a walk never ends.
-pub fn stopped(run: Run) -> Run
-    ensures { result ≡ ended_run Stopped run }
+// The vertex where h starts: the steps stop where it isn't there.
+pub fn start_of(rows: &[i32], h: Halfedge, vertices: usize) -> Result<Vertex, Stop>
+    requires { halfedge_number h < lent_halfedges rows.now }
+    ensures there { IfOk result (λ v. (names (start_of rows.now (halfedge_number h)) vertices ≡ at (vertex_number v)) × (vertex_number v < vertices)) }
+    ensures missing { IfErr result (λ stop. (names (start_of rows.now (halfedge_number h)) vertices ≡ nothing) × (stop ≡ Stop.Stopped)) }
 {
-    Run {
-        how: How::Stopped,
-        ..run
-    }
+    rows::halfedges::start_of(rows, h, vertices).ok_or(Stop::Stopped)
 }
 
-// The steps stop here: there is no room.
-pub fn no_room(run: Run) -> Run
-    ensures { result ≡ ended_run NoRoom run }
+// The vertex where h ends: the steps stop where it isn't there.
+pub fn end_of(rows: &[i32], h: Halfedge, vertices: usize) -> Result<Vertex, Stop>
+    requires { halfedge_number h < lent_halfedges rows.now }
+    ensures there { IfOk result (λ v. (names (end_of rows.now (halfedge_number h)) vertices ≡ at (vertex_number v)) × (vertex_number v < vertices)) }
+    ensures missing { IfErr result (λ stop. (names (end_of rows.now (halfedge_number h)) vertices ≡ nothing) × (stop ≡ Stop.Stopped)) }
 {
-    Run {
-        how: How::NoRoom,
-        ..run
-    }
+    rows::halfedges::end_of(rows, h, vertices).ok_or(Stop::Stopped)
 }
 
-// Whether a step has refused.
-pub fn refused(run: Run) -> bool
-    ensures { result ≡ is_refused run.how }
-{
-    match run.how {
-        How::Going => false,
-        How::NoRoom | How::Stopped => true,
-    }
-}
-
-// How the steps ended, as an entry says it: the vertices in use, or what refused.
-pub fn answer(run: Run) -> Result<usize, Refusal>
-    ensures { count_said result ≡ run_said run }
-{
-    match run.how {
-        How::Going => Ok(run.vertices),
-        How::NoRoom => Err(Refusal::NoRoom),
-        How::Stopped => Err(Refusal::Stopped),
-    }
-}
-
-// Ends an operation: where a step has refused, the rows in use come back from the spare and the free rows that were filled read zero.
+// Ends an operation: where the steps stopped, the rows in use come back from the spare and the free rows that were filled read zero.
 pub fn settle(
     rows: &mut [i32],
     positions: &mut [u64],
@@ -93,15 +65,16 @@ pub fn settle(
     spare_positions: &[u64],
     halfedges: usize,
     vertices: usize,
-    run: Run,
+    filled: usize,
+    went: Result<(), Stop>,
 )
-    requires { (halfedges ≤ lent_halfedges rows.old) × ((halfedges ≤ lent_halfedges spare_halfedges.now) × ((vertices ≤ lent_triples spare_positions.now) × ((vertices ≤ run.vertices) × (run.vertices ≤ lent_triples positions.old)))) }
-    ensures { middle rows.new positions.new run ≡ settled_by halfedges vertices spare_halfedges.now spare_positions.now (middle rows.old positions.old run) }
+    requires rows_lent { (halfedges ≤ lent_halfedges rows.old) × (halfedges ≤ lent_halfedges spare_halfedges.now) }
+    requires positions_lent { (vertices ≤ lent_triples spare_positions.now) × ((vertices ≤ filled) × (filled ≤ lent_triples positions.old)) }
+    ensures { middle rows.new positions.new (run_after filled went) ≡ settled_by halfedges vertices spare_halfedges.now spare_positions.now (middle rows.old positions.old (run_after filled went)) }
 {
-    if !refused(run) {
+    if went.is_ok() {
         return;
     }
-    let filled = run.vertices;
     rows::halfedges::copy(spare_halfedges, rows, halfedges);
     rows::triples::zero(positions, vertices, filled);
     rows::triples::copy(spare_positions, positions, vertices);

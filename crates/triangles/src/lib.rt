@@ -3,11 +3,11 @@
 
 ghost use Rattle.std.specs.Prelude.{◌≡◌, List, ℕ, ◌<◌};
 ghost use Rattle.numbers.specs.Numbers.{halfedge_number};
-ghost use Rattle.steps.specs.Steps.{middle, InUse};
+ghost use Rattle.steps.specs.Steps.{middle, begin, run_after, InUse};
 ghost use Rattle.triangles.specs.Triangles.{emptied, collapsed, collapse};
 
 use numbers::Halfedge;
-use steps::Run;
+use steps::Stop;
 
 // Empties the three rows of the triangle of e, and keeps their props.
 fn empty_triangle(rows: &mut [i32], halfedges: usize, e: Halfedge)
@@ -31,23 +31,16 @@ fn collapse_onto(rows: &mut [i32], halfedges: usize, e: Halfedge, a: Halfedge, b
 }
 
 // The step of collapse_tri: nothing where its second row's pair is −1; it stops where another partner isn't there.
-pub fn collapse_step(rows: &mut [i32], halfedges: usize, run: Run, e: Halfedge) -> Run
+pub fn collapse_step(rows: &mut [i32], halfedges: usize, e: Halfedge) -> Result<(), Stop>
     requires { (halfedge_number e < halfedges) × InUse halfedges rows.old }
-    ensures { ((p : List ℕ) → middle rows.new p result ≡ collapse halfedges (halfedge_number e) (middle rows.old p run)) × (result.vertices ≡ run.vertices) }
+    ensures { (p : List ℕ) (n : ℕ) → middle rows.new p (run_after n result) ≡ collapse halfedges (halfedge_number e) (begin rows.old p n) }
 {
-    if steps::refused(run) {
-        return run;
-    }
     let second = e.next();
     if edgetests::is_unpaired(rows, second) {
-        return run;
+        return Ok(());
     }
-    let Some(a) = rows::halfedges::pair_of(rows, second, halfedges) else {
-        return steps::stopped(run);
-    };
-    let Some(b) = rows::halfedges::pair_of(rows, second.next(), halfedges) else {
-        return steps::stopped(run);
-    };
+    let a = steps::pair_of(rows, second, halfedges)?;
+    let b = steps::pair_of(rows, second.next(), halfedges)?;
     collapse_onto(rows, halfedges, e, a, b);
-    run
+    Ok(())
 }

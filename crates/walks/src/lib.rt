@@ -4,11 +4,11 @@
 
 ghost use Rattle.std.specs.Prelude.{◌≡◌, List, ℕ, ◌<◌, ◌^◌};
 ghost use Rattle.numbers.specs.Numbers.{halfedge_number, vertex_number, halfedge_named};
-ghost use Rattle.steps.specs.Steps.{middle, InUse};
+ghost use Rattle.steps.specs.Steps.{middle, begin, run_after, InUse};
 ghost use Rattle.walks.specs.Walk.{onward, moved, reaches, walk_to, walked, update};
 
 use numbers::{Halfedge, Vertex};
-use steps::Run;
+use steps::Stop;
 
 // Where the walk goes from h: the partner of its next.
 pub fn onward(rows: &[i32], halfedges: usize, h: Halfedge) -> Option<Halfedge>
@@ -75,19 +75,16 @@ pub fn walk_to(
 pub fn update_step(
     rows: &mut [i32],
     halfedges: usize,
-    run: Run,
     v: Vertex,
     start: Halfedge,
     end: Halfedge,
-) -> Run
+) -> Result<(), Stop>
     requires { (halfedge_number start < halfedges) × ((vertex_number v < 2 ^ 31) × InUse halfedges rows.old) }
-    ensures { ((p : List ℕ) → middle rows.new p result ≡ update halfedges (vertex_number v) (halfedge_number start) (halfedge_number end) (middle rows.old p run)) × (result.vertices ≡ run.vertices) }
+    ensures { (p : List ℕ) (n : ℕ) → middle rows.new p (run_after n result) ≡ update halfedges (vertex_number v) (halfedge_number start) (halfedge_number end) (begin rows.old p n) }
 {
-    if steps::refused(run) {
-        return run;
-    }
     if walk_to(rows, halfedges, v, start, end) {
-        return run;
+        Ok(())
+    } else {
+        Err(Stop::Stopped)
     }
-    steps::stopped(run)
 }

@@ -1,7 +1,7 @@
 -- `growth::add_face` meets its contract.
 use mathlib.Core.Path.{sym, ap, ◌∙◌}
 use native.Mathlib.Omega.{arith}
-use Rattle.steps.specs.declared.Run.{Run}
+use Rattle.steps.specs.Run.{Run}
 use Rattle.steps.specs.Steps.{is_refused}
 use Rattle.growth.specs.Growth.{face}
 use Rattle.growth.proofs.add_face.Goals as goal
