@@ -1,2 +1,3 @@
 pub mod Kept
 pub mod Cases
+pub mod Stops

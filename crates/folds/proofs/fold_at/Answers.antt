@@ -1,5 +1,4 @@
 -- `folds::fold_at` meets its contract: the rows of two triangles in use are in use; by the test, the triangles are taken out.
-use mathlib.Core.Path.{refl}
 use mathlib.Core.Bool.{◌&&◌, ◌||◌}
 use native.Mathlib.Omega.{arith}
 use borrow.Author.Tests.{not-true, not-false}
@@ -37,7 +36,7 @@ pub returns-then-not-same_end-first : goal.returns-then-not-same_end-first
 unfolding fold_at
 returns-then-not-same_end-first c =
     let t = rw (c.same_end.ensures, c.is_pair-first.ensures, c.is_pair-second.ensures, c.next-f2.ensures, c.next-f1.ensures, c.next-e2.ensures, c.next-e1.ensures) at (not-true (c.same_end.result && (c.is_pair-first.result || c.is_pair-second.result)) c.if-not-same_end-first.true-raw) in
-    (rw t, refl)
+    rw t
 
 pub take_out-requires : goal.take_out-requires
 take_out-requires c =
@@ -52,5 +51,5 @@ pub returns : goal.returns
 unfolding fold_at
 returns c =
     let t = rw (c.same_end.ensures, c.is_pair-first.ensures, c.is_pair-second.ensures, c.next-f2.ensures, c.next-f1.ensures, c.next-e2.ensures, c.next-e1.ensures) at (not-false (c.same_end.result && (c.is_pair-first.result || c.is_pair-second.result)) c.if-not-same_end-first.false-raw) in
-    let r = rw (c.is_pair-first.ensures, c.is_pair-second.ensures, c.next-f2.ensures, c.next-f1.ensures, c.next-e2.ensures, c.next-e1.ensures) at c.take_out.ensures.0 in
-    (rw t r, c.take_out.ensures.1)
+    let r = rw (c.is_pair-first.ensures, c.is_pair-second.ensures, c.next-f2.ensures, c.next-f1.ensures, c.next-e2.ensures, c.next-e1.ensures) at c.take_out.ensures in
+    rw t r
