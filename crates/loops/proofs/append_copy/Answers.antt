@@ -1,16 +1,12 @@
 -- `loops::append_copy` meets its contract: there is room, or there is none.
-use native.Mathlib.Omega.{arith}
 use borrow.Author.Tests.{le-leb, lt-leb}
 use Rattle.loops.specs.Loops.{append}
 use Rattle.loops.proofs.append_copy.Goals as goal
 
-pub returns-then-capacity-vertices : goal.returns-then-capacity-vertices
+pub returns-then-capacity-used-clause-step : goal.returns-then-capacity-used-clause-step
 unfolding append
-returns-then-capacity-vertices c =
-    let s = c.args in
-    (λ h. rw (le-leb s.capacity s.run.vertices (omega (arith, c.if-capacity-vertices.true)), c.no_room.ensures), rw c.no_room.ensures c.requires.1.0)
+returns-then-capacity-used-clause-step c = λ h. rw (le-leb _ _ c.if-capacity-used.true)
 
-pub returns : goal.returns
+pub returns-clause-step : goal.returns-clause-step
 unfolding append
-returns c =
-    (λ h. rw (lt-leb _ _ c.if-capacity-vertices.false, c.append_position.ensures.0, c.position_of-p.ensures, c.with_vertices.ensures), rw c.with_vertices.ensures (omega arith))
+returns-clause-step c = λ h. rw (lt-leb _ _ c.if-capacity-used.false, c.append_position.ensures.0, c.position_of-p.ensures)
