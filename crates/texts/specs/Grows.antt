@@ -4,9 +4,9 @@ use Rattle.texts.specs.declared.Text.{Text}
 use Rattle.texts.specs.Appended.{Appended}
 
 -- the buffer has room for these bytes behind those in use
-abbrev pub HasRoom : Text → List ℕ → Type 0
-HasRoom t bytes = t.used + length bytes ≤ length t.out.now
+pub record HasRoom (t : Text) (bytes : List ℕ) : Type 0 where
+  pub fits : t.used + length bytes ≤ length t.out.now
 
 -- bytes put behind those in use, and what is behind them kept
-abbrev pub Grows : Text → List ℕ → Text → Type 0
-Grows before bytes after = Appended before.out.now before.used bytes after.out.now after.used
+pub record Grows (before : Text) (bytes : List ℕ) (after : Text) : Type 0 where
+  pub appended : Appended before.out.now before.used bytes after.out.now after.used

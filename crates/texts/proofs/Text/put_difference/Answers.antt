@@ -1,13 +1,20 @@
 -- `texts::Text::put_difference` meets its contract: by the sign of the difference.
-use native.Mathlib.Omega.{arith}
-use Rattle.texts.proofs.Appends.{appended_on, appended_as, appended_length}
-use Rattle.texts.proofs.Numbers.{difference_less}
+use mathlib.Core.Path.{sym}
+use Rattle.texts.proofs.Rooms.{room_as, room_first, room_on, grows_as, grows_on}
+use Rattle.texts.proofs.Numbers.{difference_more, difference_less}
 use Rattle.texts.proofs.Text.put_difference.Goals as goal
 
+pub put_number-requires : goal.put_number-requires
+put_number-requires c = room_as c.requires (sym (difference_more _ _ c.if-less-more.true))
+
+pub put_bytes-requires : goal.put_bytes-requires
+put_bytes-requires c = room_first _ _ (room_as c.requires (sym (difference_less _ _ c.if-less-more.false)))
+
 pub put_number-requires-else-less-more : goal.put_number-requires-else-less-more
-put_number-requires-else-less-more c =
-    let f = rw (← difference_less _ _ c.if-less-more.false) at c.requires in
-    omega (arith, c.put_bytes.ensures.grows.count, appended_length c.put_bytes.ensures.grows (omega arith))
+put_number-requires-else-less-more c = room_on _ _ (room_as c.requires (sym (difference_less _ _ c.if-less-more.false))) c.put_bytes.ensures.grows
+
+pub returns-then-less-more-clause-grows : goal.returns-then-less-more-clause-grows
+returns-then-less-more-clause-grows c = grows_as c.put_number.ensures.grows (difference_more _ _ c.if-less-more.true)
 
 pub returns-else-less-more-clause-grows : goal.returns-else-less-more-clause-grows
-returns-else-less-more-clause-grows c = appended_as (appended_on c.put_bytes.ensures.grows c.put_number-else-less-more.ensures.grows) (difference_less _ _ c.if-less-more.false)
+returns-else-less-more-clause-grows c = grows_as (grows_on c.put_bytes.ensures.grows c.put_number-else-less-more.ensures.grows) (difference_less _ _ c.if-less-more.false)

@@ -1,11 +1,11 @@
 -- `texts::Text::put_number` meets its contract: the digits of io are the number as it is written.
-use mathlib.Core.Path.{◌∙◌}
-use Rattle.texts.proofs.Appends.{appended_as}
+use mathlib.Core.Path.{sym, ◌∙◌}
+use Rattle.texts.proofs.Rooms.{room_as, grows_as}
 use Rattle.texts.proofs.Numbers.{fewest_digits}
 use Rattle.texts.proofs.Text.put_number.Goals as goal
 
 pub put_bytes-requires : goal.put_bytes-requires
-put_bytes-requires c = rw (c.decimal-k.ensures.digits ∙ fewest_digits _ _ c.decimal-k.ensures.len) c.requires
+put_bytes-requires c = room_as c.requires (sym (c.decimal-k.ensures.digits ∙ fewest_digits _ _ c.decimal-k.ensures.len))
 
 pub returns-clause-grows : goal.returns-clause-grows
-returns-clause-grows c = appended_as c.put_bytes.ensures.grows (c.decimal-k.ensures.digits ∙ fewest_digits _ _ c.decimal-k.ensures.len)
+returns-clause-grows c = grows_as c.put_bytes.ensures.grows (c.decimal-k.ensures.digits ∙ fewest_digits _ _ c.decimal-k.ensures.len)
