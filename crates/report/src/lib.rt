@@ -33,8 +33,7 @@ pub struct Mesh<'a> {
 // Puts a comma and a number.
 fn put_next(text: &mut Text, n: u64)
     requires { HasRoom text.old ((comma ∷ []) ++ decimal n) }
-    ensures same_buffer { text.new.out.ghost_name ≡ text.old.out.ghost_name }
-    ensures grows { Grows text.old ((comma ∷ []) ++ decimal n) text.new }
+    ensures { Grows text.old ((comma ∷ []) ++ decimal n) text.new }
 {
     text.put_bytes(b",");
     text.put_number(n);
@@ -43,8 +42,7 @@ fn put_next(text: &mut Text, n: u64)
 // Puts the numbers of a visit list, separated by commas.
 fn put_visit(text: &mut Text, visit: &[u32])
     requires { HasRoom text.old (commas visit.now) }
-    ensures same_buffer { text.new.out.ghost_name ≡ text.old.out.ghost_name }
-    ensures grows { Grows text.old (commas visit.now) text.new }
+    ensures { Grows text.old (commas visit.now) text.new }
 {
     let Some((first, others)) = visit.split_first() else {
         return;
@@ -58,8 +56,7 @@ fn put_visit(text: &mut Text, visit: &[u32])
 // Puts the line of the visit list.
 fn put_visit_line(text: &mut Text, visit: &[u32])
     requires { HasRoom text.old (line visit_word (commas visit.now)) }
-    ensures same_buffer { text.new.out.ghost_name ≡ text.old.out.ghost_name }
-    ensures grows { Grows text.old (line visit_word (commas visit.now)) text.new }
+    ensures { Grows text.old (line visit_word (commas visit.now)) text.new }
 {
     text.put_bytes(b"visit=");
     put_visit(text, visit);
@@ -108,8 +105,7 @@ fn live_triangles(rows: &[i32], n: usize) -> usize
 // Puts the line of the euler number.
 fn put_euler_line(text: &mut Text, mesh: &Mesh)
     requires { HasRoom text.old (line euler_word (signed (euler mesh.now.vertices mesh.now.triangles mesh.now.rows.now))) }
-    ensures same_buffer { text.new.out.ghost_name ≡ text.old.out.ghost_name }
-    ensures grows { Grows text.old (line euler_word (signed (euler mesh.now.vertices mesh.now.triangles mesh.now.rows.now))) text.new }
+    ensures { Grows text.old (line euler_word (signed (euler mesh.now.vertices mesh.now.triangles mesh.now.rows.now))) text.new }
 {
     let more = mesh.vertices + live_triangles(mesh.rows, mesh.triangles);
     let less = live_halfedges(mesh.rows, 3 * mesh.triangles) / 2;
@@ -121,8 +117,7 @@ fn put_euler_line(text: &mut Text, mesh: &Mesh)
 // Puts the lines of a split that was done.
 fn put_done(text: &mut Text, added: usize, visit: &[u32], mesh: &Mesh)
     requires { HasRoom text.old (done_text added visit.now (euler mesh.now.vertices mesh.now.triangles mesh.now.rows.now)) }
-    ensures same_buffer { text.new.out.ghost_name ≡ text.old.out.ghost_name }
-    ensures grows { Grows text.old (done_text added visit.now (euler mesh.now.vertices mesh.now.triangles mesh.now.rows.now)) text.new }
+    ensures { Grows text.old (done_text added visit.now (euler mesh.now.vertices mesh.now.triangles mesh.now.rows.now)) text.new }
 {
     text.put_line(b"answer=", 0);
     text.put_line(b"added=", added);
@@ -134,8 +129,7 @@ fn put_done(text: &mut Text, added: usize, visit: &[u32], mesh: &Mesh)
 // Puts the lines of a refusal.
 fn put_refused(text: &mut Text, answer: usize, word: &[u8], value: usize)
     requires { HasRoom text.old (line answer_word (decimal answer) ++ line word.now (decimal value)) }
-    ensures same_buffer { text.new.out.ghost_name ≡ text.old.out.ghost_name }
-    ensures grows { Grows text.old (line answer_word (decimal answer) ++ line word.now (decimal value)) text.new }
+    ensures { Grows text.old (line answer_word (decimal answer) ++ line word.now (decimal value)) text.new }
 {
     text.put_line(b"answer=", answer);
     text.put_line(word, value);
@@ -145,7 +139,6 @@ fn put_refused(text: &mut Text, answer: usize, word: &[u8], value: usize)
 fn put_report(text: &mut Text, outcome: Outcome, visit: &[u32], mesh: &Mesh)
     requires room { text.old.used + 20000 ≤ length text.old.out.now }
     requires listed { Listed outcome visit.now }
-    ensures same_buffer { text.new.out.ghost_name ≡ text.old.out.ghost_name }
     ensures grows { Grows text.old (text_of outcome visit.now (euler mesh.now.vertices mesh.now.triangles mesh.now.rows.now)) text.new }
     ensures within { text.new.used ≤ text.old.used + 20000 }
 {

@@ -4,7 +4,7 @@
 
 ghost use Rattle.std.specs.Prelude.{◌≡◌, pos, ◌-ℤ◌};
 ghost use Rattle.digits.specs.Written.{decimal, signed};
-ghost use Rattle.texts.specs.Appended.{Appended, line};
+ghost use Rattle.texts.specs.Appended.{line};
 ghost use Rattle.texts.specs.Grows.{HasRoom, Grows};
 ghost use Rattle.texts.specs.Put.{put};
 
@@ -19,8 +19,7 @@ impl<'a> Text<'a> {
     // Puts bytes behind those in use.
     pub fn put_bytes(&mut self, bytes: &[u8])
         requires { HasRoom self.old bytes.now }
-        ensures same_buffer { self.new.out.ghost_name ≡ self.old.out.ghost_name }
-        ensures grows { Grows self.old bytes.now self.new }
+        ensures { Grows self.old bytes.now self.new }
     {
         let end = self.used + bytes.len();
         self.out[self.used..end].copy_from_slice(bytes);
@@ -30,8 +29,7 @@ impl<'a> Text<'a> {
     // Puts a decimal number.
     pub fn put_number(&mut self, n: u64)
         requires { HasRoom self.old (decimal n) }
-        ensures same_buffer { self.new.out.ghost_name ≡ self.old.out.ghost_name }
-        ensures grows { Grows self.old (decimal n) self.new }
+        ensures { Grows self.old (decimal n) self.new }
     {
         let mut digits = [0u8; 20];
         let k = io::decimal(n, &mut digits);
@@ -41,8 +39,7 @@ impl<'a> Text<'a> {
     // Puts a word, a number and the end of the line.
     pub fn put_line(&mut self, word: &[u8], n: usize)
         requires { HasRoom self.old (line word.now (decimal n)) }
-        ensures same_buffer { self.new.out.ghost_name ≡ self.old.out.ghost_name }
-        ensures grows { Grows self.old (line word.now (decimal n)) self.new }
+        ensures { Grows self.old (line word.now (decimal n)) self.new }
     {
         self.put_bytes(word);
         self.put_number(n as u64);
@@ -52,8 +49,7 @@ impl<'a> Text<'a> {
     // Puts the difference of two numbers, with a sign where it is negative.
     pub fn put_difference(&mut self, more: usize, less: usize)
         requires { HasRoom self.old (signed (pos more -ℤ pos less)) }
-        ensures same_buffer { self.new.out.ghost_name ≡ self.old.out.ghost_name }
-        ensures grows { Grows self.old (signed (pos more -ℤ pos less)) self.new }
+        ensures { Grows self.old (signed (pos more -ℤ pos less)) self.new }
     {
         if less <= more {
             self.put_number((more - less) as u64);

@@ -9,20 +9,20 @@ put_line-requires c = room_first _ _ c.requires
 
 pub put_line-requires-2 : goal.put_line-requires-2
 unfolding done_text
-put_line-requires-2 c = room_first _ _ (room_on _ _ c.requires c.put_line.ensures.grows)
+put_line-requires-2 c = room_first _ _ (room_on _ _ c.requires c.put_line.ensures)
 
 pub put_line-requires-3 : goal.put_line-requires-3
 unfolding done_text
-put_line-requires-3 c = room_first _ _ (room_on _ _ (room_on _ _ c.requires c.put_line.ensures.grows) c.put_line-2.ensures.grows)
+put_line-requires-3 c = room_first _ _ (room_on _ _ (room_on _ _ c.requires c.put_line.ensures) c.put_line-2.ensures)
 
 pub put_visit_line-requires : goal.put_visit_line-requires
 unfolding done_text
-put_visit_line-requires c = room_first _ _ (room_on _ _ (room_on _ _ (room_on _ _ c.requires c.put_line.ensures.grows) c.put_line-2.ensures.grows) c.put_line-3.ensures.grows)
+put_visit_line-requires c = room_first _ _ (room_on _ _ (room_on _ _ (room_on _ _ c.requires c.put_line.ensures) c.put_line-2.ensures) c.put_line-3.ensures)
 
 pub put_euler_line-requires : goal.put_euler_line-requires
 unfolding done_text
-put_euler_line-requires c = room_on _ _ (room_on _ _ (room_on _ _ (room_on _ _ c.requires c.put_line.ensures.grows) c.put_line-2.ensures.grows) c.put_line-3.ensures.grows) c.put_visit_line.ensures.grows
+put_euler_line-requires c = room_on _ _ (room_on _ _ (room_on _ _ (room_on _ _ c.requires c.put_line.ensures) c.put_line-2.ensures) c.put_line-3.ensures) c.put_visit_line.ensures
 
-pub returns-clause-grows : goal.returns-clause-grows
+pub returns : goal.returns
 unfolding done_text
-returns-clause-grows c = grows_on c.put_line.ensures.grows (grows_on c.put_line-2.ensures.grows (grows_on c.put_line-3.ensures.grows (grows_on c.put_visit_line.ensures.grows c.put_euler_line.ensures.grows)))
+returns c = grows_on c.put_line.ensures (grows_on c.put_line-2.ensures (grows_on c.put_line-3.ensures (grows_on c.put_visit_line.ensures c.put_euler_line.ensures)))

@@ -15,15 +15,15 @@ put_bytes-requires c = room_first _ _ c.requires
 
 pub put_difference-requires : goal.put_difference-requires
 unfolding euler
-put_difference-requires c = rw (c.live_triangles.ensures, c.live_halfedges-less.ensures) (room_first _ _ (room_on _ _ c.requires c.put_bytes.ensures.grows))
+put_difference-requires c = rw (c.live_triangles.ensures, c.live_halfedges-less.ensures) (room_first _ _ (room_on _ _ c.requires c.put_bytes.ensures))
 
 pub put_bytes-requires-2 : goal.put_bytes-requires-2
 unfolding euler
 put_bytes-requires-2 c =
-    room_on _ _ (room_on _ _ c.requires c.put_bytes.ensures.grows) (rw (c.live_triangles.ensures, c.live_halfedges-less.ensures) at c.put_difference.ensures.grows)
+    room_on _ _ (room_on _ _ c.requires c.put_bytes.ensures) (rw (c.live_triangles.ensures, c.live_halfedges-less.ensures) at c.put_difference.ensures)
 
-pub returns-clause-grows : goal.returns-clause-grows
+pub returns : goal.returns
 unfolding euler
-returns-clause-grows c =
-    grows_on c.put_bytes.ensures.grows
-    (grows_on (rw (c.live_triangles.ensures, c.live_halfedges-less.ensures) at c.put_difference.ensures.grows) c.put_bytes-2.ensures.grows)
+returns c =
+    grows_on c.put_bytes.ensures
+    (grows_on (rw (c.live_triangles.ensures, c.live_halfedges-less.ensures) at c.put_difference.ensures) c.put_bytes-2.ensures)

@@ -7,7 +7,7 @@ pub put_bytes-requires : goal.put_bytes-requires
 put_bytes-requires c = room_first _ (decimal c.args.n) c.requires
 
 pub put_number-requires : goal.put_number-requires
-put_number-requires c = room_on _ _ c.requires c.put_bytes.ensures.grows
+put_number-requires c = room_on _ _ c.requires c.put_bytes.ensures
 
-pub returns-clause-grows : goal.returns-clause-grows
-returns-clause-grows c = grows_on c.put_bytes.ensures.grows c.put_number.ensures.grows
+pub returns : goal.returns
+returns c = grows_on c.put_bytes.ensures c.put_number.ensures

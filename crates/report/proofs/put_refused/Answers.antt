@@ -6,7 +6,7 @@ pub put_line-requires : goal.put_line-requires
 put_line-requires c = room_first _ _ c.requires
 
 pub put_line-requires-2 : goal.put_line-requires-2
-put_line-requires-2 c = room_on _ _ c.requires c.put_line.ensures.grows
+put_line-requires-2 c = room_on _ _ c.requires c.put_line.ensures
 
-pub returns-clause-grows : goal.returns-clause-grows
-returns-clause-grows c = grows_on c.put_line.ensures.grows c.put_line-2.ensures.grows
+pub returns : goal.returns
+returns c = grows_on c.put_line.ensures c.put_line-2.ensures

@@ -29,34 +29,34 @@ put_refused-requires-in-BadFile c = record { fits = omega (arith, c.requires.roo
 pub returns-in-Done-clause-grows : goal.returns-in-Done-clause-grows
 returns-in-Done-clause-grows c =
     let listed = rw c.in-Done.is at c.requires.listed in
-    rw c.in-Done.is (grows_as c.put_done.ensures.grows (done_is c.args.mesh.now _ _ _ listed.1))
+    rw c.in-Done.is (grows_as c.put_done.ensures (done_is c.args.mesh.now _ _ _ listed.1))
 
 pub returns-in-Done-clause-within : goal.returns-in-Done-clause-within
 returns-in-Done-clause-within c =
     let listed = rw c.in-Done.is at c.requires.listed in
     omega (
       arith,
-      c.put_done.ensures.grows.appended.count,
+      c.put_done.ensures.appended.count,
       done_few c.args.mesh.now c.in-Done.added c.in-Done.steps c.args.visit.now listed.1 (omega arith) listed.0 (λ i. omega (arith, c.type_inv.visit i)),
     )
 
 pub returns-in-Refused-clause-grows : goal.returns-in-Refused-clause-grows
 unfolding text_of
-returns-in-Refused-clause-grows c = rw c.in-Refused.is c.put_line.ensures.grows
+returns-in-Refused-clause-grows c = rw c.in-Refused.is c.put_line.ensures
 
 pub returns-in-Refused-clause-within : goal.returns-in-Refused-clause-within
-returns-in-Refused-clause-within c = omega (arith, c.put_line.ensures.grows.appended.count, line_few answer_word c.in-Refused.answer (omega arith))
+returns-in-Refused-clause-within c = omega (arith, c.put_line.ensures.appended.count, line_few answer_word c.in-Refused.answer (omega arith))
 
 pub returns-in-Unsound-clause-grows : goal.returns-in-Unsound-clause-grows
 unfolding text_of
-returns-in-Unsound-clause-grows c = rw c.in-Unsound.is c.put_refused.ensures.grows
+returns-in-Unsound-clause-grows c = rw c.in-Unsound.is c.put_refused.ensures
 
 pub returns-in-Unsound-clause-within : goal.returns-in-Unsound-clause-within
-returns-in-Unsound-clause-within c = omega (arith, c.put_refused.ensures.grows.appended.count, refused_few 3 row_word c.in-Unsound.row (omega arith) (omega arith))
+returns-in-Unsound-clause-within c = omega (arith, c.put_refused.ensures.appended.count, refused_few 3 row_word c.in-Unsound.row (omega arith) (omega arith))
 
 pub returns-in-BadFile-clause-grows : goal.returns-in-BadFile-clause-grows
 unfolding text_of
-returns-in-BadFile-clause-grows c = rw c.in-BadFile.is c.put_refused-in-BadFile.ensures.grows
+returns-in-BadFile-clause-grows c = rw c.in-BadFile.is c.put_refused-in-BadFile.ensures
 
 pub returns-in-BadFile-clause-within : goal.returns-in-BadFile-clause-within
-returns-in-BadFile-clause-within c = omega (arith, c.put_refused-in-BadFile.ensures.grows.appended.count, refused_few 11 line_word c.in-BadFile.number (omega arith) (omega arith))
+returns-in-BadFile-clause-within c = omega (arith, c.put_refused-in-BadFile.ensures.appended.count, refused_few 11 line_word c.in-BadFile.number (omega arith) (omega arith))

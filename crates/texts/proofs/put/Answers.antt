@@ -12,5 +12,5 @@ returns-then-out-used-2 c = put_not _ _ _ (omega arith)
 
 pub returns : goal.returns
 returns c =
-    let whole = appended_put c.put_bytes.ensures.grows.appended (omega arith) in
+    let whole = appended_put c.put_bytes.ensures.appended (omega arith) in
     search (rules, whole)

@@ -11,10 +11,10 @@ pub put_bytes-requires : goal.put_bytes-requires
 put_bytes-requires c = room_first _ _ (room_as c.requires (sym (difference_less _ _ c.if-less-more.false)))
 
 pub put_number-requires-else-less-more : goal.put_number-requires-else-less-more
-put_number-requires-else-less-more c = room_on _ _ (room_as c.requires (sym (difference_less _ _ c.if-less-more.false))) c.put_bytes.ensures.grows
+put_number-requires-else-less-more c = room_on _ _ (room_as c.requires (sym (difference_less _ _ c.if-less-more.false))) c.put_bytes.ensures
 
-pub returns-then-less-more-clause-grows : goal.returns-then-less-more-clause-grows
-returns-then-less-more-clause-grows c = grows_as c.put_number.ensures.grows (difference_more _ _ c.if-less-more.true)
+pub returns-then-less-more : goal.returns-then-less-more
+returns-then-less-more c = grows_as c.put_number.ensures (difference_more _ _ c.if-less-more.true)
 
-pub returns-else-less-more-clause-grows : goal.returns-else-less-more-clause-grows
-returns-else-less-more-clause-grows c = grows_as (grows_on c.put_bytes.ensures.grows c.put_number-else-less-more.ensures.grows) (difference_less _ _ c.if-less-more.false)
+pub returns-else-less-more : goal.returns-else-less-more
+returns-else-less-more c = grows_as (grows_on c.put_bytes.ensures c.put_number-else-less-more.ensures) (difference_less _ _ c.if-less-more.false)

@@ -6,10 +6,10 @@ pub put_bytes-requires : goal.put_bytes-requires
 put_bytes-requires c = room_first _ _ c.requires
 
 pub put_number-requires : goal.put_number-requires
-put_number-requires c = room_first _ _ (room_on _ _ c.requires c.put_bytes.ensures.grows)
+put_number-requires c = room_first _ _ (room_on _ _ c.requires c.put_bytes.ensures)
 
 pub put_bytes-requires-2 : goal.put_bytes-requires-2
-put_bytes-requires-2 c = room_on _ _ (room_on _ _ c.requires c.put_bytes.ensures.grows) c.put_number.ensures.grows
+put_bytes-requires-2 c = room_on _ _ (room_on _ _ c.requires c.put_bytes.ensures) c.put_number.ensures
 
-pub returns-clause-grows : goal.returns-clause-grows
-returns-clause-grows c = grows_on c.put_bytes.ensures.grows (grows_on c.put_number.ensures.grows c.put_bytes-2.ensures.grows)
+pub returns : goal.returns
+returns c = grows_on c.put_bytes.ensures (grows_on c.put_number.ensures c.put_bytes-2.ensures)

@@ -7,5 +7,5 @@ use Rattle.texts.proofs.Text.put_number.Goals as goal
 pub put_bytes-requires : goal.put_bytes-requires
 put_bytes-requires c = room_as c.requires (sym (c.decimal-k.ensures.digits ∙ fewest_digits _ _ c.decimal-k.ensures.len))
 
-pub returns-clause-grows : goal.returns-clause-grows
-returns-clause-grows c = grows_as c.put_bytes.ensures.grows (c.decimal-k.ensures.digits ∙ fewest_digits _ _ c.decimal-k.ensures.len)
+pub returns : goal.returns
+returns c = grows_as c.put_bytes.ensures (c.decimal-k.ensures.digits ∙ fewest_digits _ _ c.decimal-k.ensures.len)
