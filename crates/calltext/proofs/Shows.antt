@@ -1,6 +1,6 @@
 -- One turn of the loop that puts a list.
-use Rattle.std.proofs.Common.{◌≡◌, ℕ, suc, ◌+◌, ◌<◌, ◌≤◌, List, ◌∷◌, length, get_or, drop, sym, ap, ◌∙◌, add-one, drop_of_length-le, drop-cons}
-use Rattle.texts.specs.Put.{Filled, put, puts}
+use Rattle.std.proofs.Common.{◌≡◌, ℕ, suc, ◌+◌, ◌<◌, ◌≤◌, List, [], ◌∷◌, length, get_or, drop, sym, ap, ◌∙◌, add-one, drop_of_length-le, drop-cons}
+use Rattle.texts.specs.Put.{Filled, puts}
 use Rattle.texts.proofs.Puts.{puts_append}
 use Rattle.calltext.specs.Shown.{ended, blank, spaced, listed}
 
@@ -13,7 +13,7 @@ module _ {A : Type 0} (pieces : A → List (List ℕ)) (l : List A) where
       ∙ sym (puts_append (blank ∷ pieces (get_or l i d)) (spaced pieces (drop (suc i) l)) s)
       ∙ ap (λ (m : List A). puts (spaced pieces m) s) (sym (drop-cons l i d h)))
 
-  pub listed_done : (name : List ℕ) (i : ℕ) (s t u v : Filled) → length l ≤ i → t ≡ put name s → puts (spaced pieces (drop i l)) u ≡ puts (spaced pieces l) t → v ≡ puts ended u → v ≡ puts (listed pieces name l) s
+  pub listed_done : (name : List ℕ) (i : ℕ) (s t u v : Filled) → length l ≤ i → t ≡ puts (name ∷ []) s → puts (spaced pieces (drop i l)) u ≡ puts (spaced pieces l) t → v ≡ puts ended u → v ≡ puts (listed pieces name l) s
   unfolding spaced puts
   listed_done name i s t u v h a b c =
       c ∙ ap (λ (m : List A). puts (spaced pieces m) u) (sym (drop_of_length-le l {i = i} h)) ∙ b ∙ ap (puts (spaced pieces l)) a
