@@ -2,4 +2,4 @@
 use Rattle.fanwalks.proofs.copy_fan.Goals as goal
 
 pub returns : goal.returns
-returns c = (rw c.append_position-x.ensures.1 at c.relabel_fan.ensures, rw c.position_of-p.ensures at c.append_position-x.ensures.0)
+returns c = record { relabelled = rw c.append_position-x.ensures.1 at c.relabel_fan.ensures; copied = rw c.position_of-p.ensures at c.append_position-x.ensures.0 }

@@ -9,9 +9,9 @@ use Rattle.fanwalks.proofs.partner_of.Goals as goal
 
 pub pair_known-requires : goal.pair_known-requires
 pair_known-requires c = (
-  omega (arith, c.requires.1.in_use, c.requires.0.lent),
-  rw c.requires.1.paired (le-leb 0 (partner c.args.rows.now (halfedge_number c.args.h)) (omega arith)),
+  omega (arith, c.requires.live.in_use, c.requires.round.lent),
+  rw c.requires.live.paired (le-leb 0 (partner c.args.rows.now (halfedge_number c.args.h)) (omega arith)),
 )
 
 pub returns : goal.returns
-returns c = let e = sym (ap nat_abs c.pair_known.ensures) in (e, rw e (c.requires.0.partner_in c.requires.1))
+returns c = let e = sym (ap nat_abs c.pair_known.ensures) in record { there = e; in_use = rw e (c.requires.round.partner_in c.requires.live) }
