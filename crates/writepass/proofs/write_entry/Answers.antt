@@ -35,14 +35,17 @@ pub copy_fan-requires : goal.copy_fan-requires
 copy_fan-requires c =
     let pre = c.requires in
     let args = c.args in
-    let at_if1 = c.if-x-lt-COPY in
     let at_halfedge_counted = c.halfedge_counted-i in
-    let at_start_of = c.start_of in
-    let at_v = c.in-Some in
-    let large : copy_bit ≤ args.x = omega (arith, at_if1.false) in
-    let named = ap (λ k. names (start_of args.rows.now k) args.vertices) (sym at_halfedge_counted.ensures) ∙ sym at_start_of.ensures ∙ ap vertex_named at_v.is in
+    let large : copy_bit ≤ args.x = omega (arith, c.if-x-lt-COPY.false) in
+    let named = ap (λ k. names (start_of args.rows.now k) args.vertices) (sym at_halfedge_counted.ensures) ∙ sym c.start_of.ensures ∙ ap vertex_named c.in-Some.is in
     let free = pre.room large _ named in
-    (pre.round, (subst (Live args.halfedges args.rows.now) (sym at_halfedge_counted.ensures) pre.live, (omega (arith, names_below (start_of args.rows.now (args.x % copy_bit)) args.vertices named, pre.vertices_fit, capacity_lent args.positions.now), (omega (arith, free, capacity_lent args.positions.now), omega (arith, free, capacity_most args.positions.now)))))
+    record {
+      round = pre.round;
+      live = subst (Live args.halfedges args.rows.now) (sym at_halfedge_counted.ensures) pre.live;
+      read = omega (arith, names_below (start_of args.rows.now (args.x % copy_bit)) args.vertices named, pre.vertices_fit, capacity_lent args.positions.now);
+      room = omega (arith, free, capacity_lent args.positions.now);
+      small = omega (arith, free, capacity_most args.positions.now);
+    }
 
 pub overflow_add-result : goal.overflow_add-result
 overflow_add-result c =
@@ -64,6 +67,6 @@ returns c =
     let at_v = c.in-Some in
     let at_copy_fan = c.copy_fan in
     let large : copy_bit ≤ args.x = omega (arith, at_if1.false) in
-    let p = at_copy_fan.ensures.0 ∙ ap (λ k. relabel_walk (args.vertices + args.added) (walk (turn args.rows.now) args.halfedges k k) args.rows.now) at_halfedge_counted.ensures in
-    let q = at_copy_fan.ensures.1 in
+    let p = at_copy_fan.ensures.relabelled ∙ ap (λ k. relabel_walk (args.vertices + args.added) (walk (turn args.rows.now) args.halfedges k k) args.rows.now) at_halfedge_counted.ensures in
+    let q = at_copy_fan.ensures.copied in
     (λ j. written (p j) (q j) (set args.visit.now args.k (args.x % copy_bit)) (args.added + 1)) ∙ entry_named args.halfedges args.vertices args.k args.x (written args.rows.now args.positions.now args.visit.now args.added) large (at _) (ap (λ k. names (start_of args.rows.now k) args.vertices) (sym at_halfedge_counted.ensures) ∙ sym at_start_of.ensures ∙ ap vertex_named at_v.is)
