@@ -5,35 +5,13 @@ use Prim.Native.Nat.{◌+◌, ◌-◌}
 use native.Mathlib.Omega.{arith}
 use Rattle.numbers.specs.Numbers.{halfedge_number}
 use Rattle.ordering.specs.inner.Order.{see, place, last_entry}
-use Rattle.ordering.proofs.Walks.{last_entry_small}
 use Rattle.std.specs.Prelude.{Some}
-use Rattle.fanwalks.proofs.Loops.{ordering_begins, ordering_never, ordering_place, ordering_on, ordering_home}
+use Rattle.fanwalks.proofs.Loops.{ordering_never, ordering_place, ordering_on, ordering_home}
 use Rattle.fanwalks.proofs.order_fan.Goals as goal
 
-pub overflow_add-k-end : goal.overflow_add-k-end
-overflow_add-k-end c = record { fits = omega (arith, c.requires.fits, c.requires.round.few) }
-
-pub loop-k-init : goal.loop-k-init
-loop-k-init c = let e : c.args.steps + c.args.halfedges - c.args.steps ≡ c.args.halfedges = omega arith in rw e (ordering_begins c.requires)
-
-pub turn_of-c-requires : goal.turn_of-c-requires
-turn_of-c-requires c = record { round = c.requires.round; live = c.loop-k.invariant.live }
-
-pub see-requires : goal.see-requires
-see-requires c = omega (arith, c.number-here.ensures, c.turn_of-c.ensures.in_use, c.loop-k.invariant.work_len, c.requires.work_long)
-
-pub last_entry-requires : goal.last_entry-requires
-last_entry-requires c = omega (arith, c.number-here.ensures, c.turn_of-c.ensures.in_use, c.requires.round.few)
-
-pub place-requires : goal.place-requires
-place-requires c =
-    record {
-      inside = omega (arith, ordering_place c.requires c.loop-k.invariant (omega arith), c.see.auto.work, c.loop-k.invariant.work_len, c.requires.work_long);
-      small = rw c.last_entry.ensures (last_entry_small c.args.first c.number-here.result (omega (arith, c.number-here.ensures, c.turn_of-c.ensures.in_use, c.requires.round.few)));
-    }
-
-pub overflow_add-result : goal.overflow_add-result
-overflow_add-result c = record { fits = omega (arith, ordering_place c.requires c.loop-k.invariant (omega arith), c.requires.round.few) }
+pub place-requires-clause-inside : goal.place-requires-clause-inside
+place-requires-clause-inside c =
+    omega (arith, ordering_place c.requires c.loop-k.invariant (omega arith), c.see.auto.work, c.loop-k.invariant.work_len, c.requires.work_long)
 
 pub returns-then-here-home : goal.returns-then-here-home
 returns-then-here-home c =
@@ -44,12 +22,9 @@ returns-then-here-home c =
     ∙ ap (λ h. place c.loop-k.k (last_entry c.args.first h) (see h c.loop-k.work)) c.number-here.ensures) in
     record { ordered = q.0; behind = ap Some q.1 }
 
-pub place-requires-in-loop-k : goal.place-requires-in-loop-k
-place-requires-in-loop-k c =
-    record {
-      inside = omega (arith, ordering_place c.requires c.loop-k.invariant (omega arith), c.see.auto.work, c.loop-k.invariant.work_len, c.requires.work_long);
-      small = omega (arith, c.number-here.ensures, c.turn_of-c.ensures.in_use, c.requires.round.few);
-    }
+pub place-requires-in-loop-k-clause-inside : goal.place-requires-in-loop-k-clause-inside
+place-requires-in-loop-k-clause-inside c =
+    omega (arith, ordering_place c.requires c.loop-k.invariant (omega arith), c.see.auto.work, c.loop-k.invariant.work_len, c.requires.work_long)
 
 pub loop-k-preserved : goal.loop-k-preserved
 loop-k-preserved c =
@@ -60,9 +35,6 @@ loop-k-preserved c =
     (c.place-in-loop-k.ensures
     ∙ ap (place c.loop-k.k c.number-here.result) c.see.ensures
     ∙ ap (λ h. place c.loop-k.k h (see h c.loop-k.work)) c.number-here.ensures))
-
-pub shape_of-work : goal.shape_of-work
-shape_of-work c = c.loop-k.invariant.work_len
 
 pub returns : goal.returns
 returns c = absurd (ordering_never c.requires c.loop-k.invariant (omega arith))

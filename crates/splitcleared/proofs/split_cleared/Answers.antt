@@ -1,14 +1,11 @@
 -- `splitcleared::split_cleared` meets its contract: no room, or all written, the list alone where there are no copies. Every fan of a sound net closes.
-use mathlib.Core.Path.{ap, ◌∙◌}
+use mathlib.Core.Path.{◌≡◌, ap, ◌∙◌}
 use native.Mathlib.Omega.{arith}
 use Rattle.rows.specs.Triples.{zero_triples}
 use Rattle.net.proofs.Shape.{capacity_lent}
 use Rattle.orderpass.proofs.Ways.{given}
-use Rattle.splitcleared.proofs.Stages.{reads_zero, goes, full, needs_met, all_written, all_listed}
+use Rattle.splitcleared.proofs.Stages.{goes, full, needs_met, all_written, all_listed}
 use Rattle.splitcleared.proofs.split_cleared.Goals as goal
-
-pub order_rows-requires : goal.order_rows-requires
-order_rows-requires c = record { sound = c.requires.sound; long = c.requires.work_long; clear = reads_zero _ _ c.requires.clear }
 
 pub zero-requires : goal.zero-requires
 zero-requires c = (
@@ -41,10 +38,11 @@ returns-then-nothing_copied c =
     let a = c.args in
     let pre = c.requires in
     let ordered = given c.in_ok-counted.ensures.ok_part c.order_rows.ensures in
+    let none : c.in_ok-counted.counted.added ≡ 0 = omega (arith, c.if-nothing_copied.true) in
     record {
       outcome =
-          rw c.if-nothing_copied.true
-          (all_listed a.positions.now a.work.now a.visit.now pre.sound pre.work_long pre.clear _ _ _ ordered c.if-nothing_copied.true (omega (arith, c.vertex_capacity-capacity.ensures, c.if-counted-capacity.false)) _ c.list_order.ensures);
+          rw none
+          (all_listed a.positions.now a.work.now a.visit.now pre.sound pre.work_long pre.clear _ _ _ ordered none (omega (arith, c.vertex_capacity-capacity.ensures, c.if-counted-capacity.false)) _ c.list_order.ensures);
       behind = (goes a.positions.now a.work.now a.visit.now pre.sound pre.work_long pre.clear _ _ _ ordered).beyond;
     }
 

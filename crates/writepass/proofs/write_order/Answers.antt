@@ -3,14 +3,11 @@ use mathlib.Core.Path.{sym, ap, ◌∙◌, subst}
 use native.Mathlib.Omega.{arith}
 use Rattle.ordering.specs.inner.Order.{written, write_entry}
 use Rattle.ordering.specs.inner.Needs.{EntryNeeds}
-use Rattle.ordering.proofs.Passes.{writing_begins, writing_needs, writing_on, writing_done}
+use Rattle.ordering.proofs.Passes.{writing_begins, writing_needs, writing_on}
 use Rattle.writepass.proofs.write_order.Goals as goal
 
 pub loop-k-init : goal.loop-k-init
 loop-k-init c = writing_begins c.requires
-
-pub entry_at-x-requires : goal.entry_at-x-requires
-entry_at-x-requires c = omega (arith, c.requires.work_long)
 
 pub write_entry-added-requires : goal.write_entry-added-requires
 write_entry-added-requires c =
@@ -22,15 +19,3 @@ loop-k-preserved c =
     writing_on c.requires c.loop-k.invariant (omega arith) _ _ _ _
     (c.write_entry-added.ensures
     ∙ ap (λ x. write_entry c.args.halfedges c.args.vertices c.loop-k.k x (written c.loop-k.rows c.loop-k.positions c.loop-k.visit c.loop-k.added)) c.entry_at-x.ensures)
-
-pub shape_of-rows : goal.shape_of-rows
-shape_of-rows c = c.loop-k.invariant.held.rows_len
-
-pub shape_of-positions : goal.shape_of-positions
-shape_of-positions c = c.loop-k.invariant.held.positions_len
-
-pub shape_of-visit : goal.shape_of-visit
-shape_of-visit c = c.loop-k.invariant.held.visit_len
-
-pub returns : goal.returns
-returns c = writing_done c.requires c.loop-k.invariant (omega arith)
