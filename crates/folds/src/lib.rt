@@ -3,7 +3,6 @@
 #![tactic(auto)]
 
 ghost use Rattle.std.specs.Prelude.{◌≡◌, List, ℕ, ◌<◌};
-ghost use Rattle.numbers.specs.Next.{next};
 ghost use Rattle.numbers.specs.Numbers.{halfedge_number};
 ghost use Rattle.rows.specs.Halfedges.{lent_halfedges};
 ghost use Rattle.steps.specs.Steps.{middle, InUse, VerticesIn};
@@ -39,6 +38,7 @@ fn beyond(rows: &[i32], run: Run, h: Halfedge) -> Run
 }
 
 // The step that loses the start of h: nothing where that is below 0; it stops where that is beyond the vertices.
+#[tactic(auto, using(numbers::proofs::Names::names_below), unfolding(crate::specs::Folds::lose))]
 pub fn lose_step(rows: &[i32], positions: &mut [u64], run: Run, h: Halfedge) -> Run
     requires { (halfedge_number h < lent_halfedges rows.now) × VerticesIn run.vertices positions.old }
     ensures { (middle rows.now positions.new result ≡ lose (halfedge_number h) (middle rows.now positions.old run)) × (result.vertices ≡ run.vertices) }
@@ -67,6 +67,7 @@ fn is_pair(rows: &[i32], halfedges: usize, h: Halfedge, p: Halfedge) -> bool
 }
 
 // The step that loses what a fold loses: three starts where the triangles meet twice, else one.
+#[tactic(auto, unfolding(crate::specs::Folds::lose_folded))]
 fn lose_folded(
     rows: &[i32],
     positions: &mut [u64],
@@ -90,6 +91,7 @@ fn lose_folded(
 }
 
 // a and d are paired, and b and c.
+#[tactic(auto, unfolding(crate::specs::Folds::outer_paired))]
 fn join_rows(rows: &mut [i32], halfedges: usize, a: Halfedge, b: Halfedge, c: Halfedge, d: Halfedge)
     requires { ((halfedge_number a < halfedges) × ((halfedge_number b < halfedges) × ((halfedge_number c < halfedges) × (halfedge_number d < halfedges)))) × InUse halfedges rows.old }
     ensures { rows.new ≡ outer_paired (halfedge_number a) (halfedge_number b) (halfedge_number c) (halfedge_number d) rows.old }
@@ -99,6 +101,7 @@ fn join_rows(rows: &mut [i32], halfedges: usize, a: Halfedge, b: Halfedge, c: Ha
 }
 
 // The step that pairs the outer partners: of e1 and f2, and of e2 and f1. It stops where one of them isn't there.
+#[tactic(auto, using(numbers::proofs::Names::names_below), unfolding(crate::specs::Folds::join))]
 fn join_step(rows: &mut [i32], halfedges: usize, run: Run, t: Folded) -> Run
     requires { RowsIn halfedges (rows_of t) × InUse halfedges rows.old }
     ensures { ((p : List ℕ) → middle rows.new p result ≡ join halfedges (rows_of t).e1 (rows_of t).e2 (rows_of t).f1 (rows_of t).f2 (middle rows.old p run)) × (result.vertices ≡ run.vertices) }
@@ -123,6 +126,7 @@ fn join_step(rows: &mut [i32], halfedges: usize, run: Run, t: Folded) -> Run
 }
 
 // Empties a row, its prop too.
+#[tactic(auto, unfolding(crate::specs::Folds::gone_row))]
 fn clear_row(rows: &mut [i32], h: Halfedge)
     requires { halfedge_number h < lent_halfedges rows.old }
     ensures { rows.new ≡ gone_row (halfedge_number h) rows.old }
@@ -132,6 +136,7 @@ fn clear_row(rows: &mut [i32], h: Halfedge)
 }
 
 // The step that empties three rows, their props too.
+#[tactic(auto, unfolding(crate::specs::Folds::clear))]
 fn clear_step(rows: &mut [i32], run: Run, e: Halfedge, e1: Halfedge, e2: Halfedge) -> Run
     requires { (halfedge_number e < lent_halfedges rows.old) × ((halfedge_number e1 < lent_halfedges rows.old) × (halfedge_number e2 < lent_halfedges rows.old)) }
     ensures { ((p : List ℕ) → middle rows.new p result ≡ clear (halfedge_number e) (halfedge_number e1) (halfedge_number e2) (middle rows.old p run)) × (result.vertices ≡ run.vertices) }
@@ -146,6 +151,7 @@ fn clear_step(rows: &mut [i32], run: Run, e: Halfedge, e1: Halfedge, e2: Halfedg
 }
 
 // Takes the two triangles out.
+#[tactic(auto, unfolding(crate::specs::Folds::take_out))]
 fn take_out(
     rows: &mut [i32],
     positions: &mut [u64],
@@ -165,6 +171,7 @@ fn take_out(
 }
 
 // Takes the two triangles out where they have folded: they have the same opposite vertex and meet again.
+#[tactic(auto, using(triangles::proofs::Parts::second_in, triangles::proofs::Parts::third_in), unfolding(crate::specs::Folds::fold_at))]
 fn fold_at(
     rows: &mut [i32],
     positions: &mut [u64],
@@ -197,6 +204,7 @@ fn fold_at(
 }
 
 // The step of remove_if_folded: nothing at an edge without pair, or where its second row's pair is −1.
+#[tactic(auto, using(triangles::proofs::Parts::second_in, numbers::proofs::Names::names_below), unfolding(crate::specs::Folds::fold))]
 pub fn fold_step(
     rows: &mut [i32],
     positions: &mut [u64],

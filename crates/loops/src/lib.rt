@@ -21,6 +21,7 @@ struct Edges {
 }
 
 // Appends a copy of the position of v, where there is room.
+#[tactic(auto, unfolding(crate::specs::Loops::append))]
 pub fn append_copy(positions: &mut [u64], capacity: usize, run: Run, v: Vertex) -> Run
     requires { (vertex_number v < run.vertices) × ((run.vertices ≤ capacity) × VerticesIn capacity positions.old) }
     ensures { ((h : List ℤ) → middle h positions.new result ≡ append capacity (vertex_number v) (middle h positions.old run)) × (result.vertices ≤ capacity) }
@@ -49,6 +50,7 @@ fn copy_named(positions: &mut [u64], capacity: usize, run: Run, named: Option<Ve
 }
 
 // The step that exchanges the partners p of a and q of b.
+#[tactic(auto, unfolding(crate::specs::Loops::exchange))]
 fn exchange_step(rows: &mut [i32], halfedges: usize, run: Run, x: Edges) -> Run
     requires { EdgesIn halfedges (edges_of x) × InUse halfedges rows.old }
     ensures { ((o : List ℕ) → middle rows.new o result ≡ exchange (edges_of x) (middle rows.old o run)) × (result.vertices ≡ run.vertices) }
@@ -62,6 +64,7 @@ fn exchange_step(rows: &mut [i32], halfedges: usize, run: Run, x: Edges) -> Run
 }
 
 // Both sides updated to the new vertices v and w, the partners exchanged, and what has folded at b taken out.
+#[tactic(auto, unfolding(crate::specs::Loops::cross_at))]
 fn cross_at(
     rows: &mut [i32],
     positions: &mut [u64],
@@ -81,6 +84,7 @@ fn cross_at(
 }
 
 // The same where both partners are there.
+#[tactic(auto, using(numbers::proofs::Names::names_below), unfolding(crate::specs::Loops::cross))]
 fn cross(
     rows: &mut [i32],
     positions: &mut [u64],

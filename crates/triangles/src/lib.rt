@@ -10,6 +10,7 @@ use numbers::Halfedge;
 use steps::Run;
 
 // Empties the three rows of the triangle of e, and keeps their props.
+#[tactic(auto, using(crate::proofs::Parts::second_in, crate::proofs::Parts::third_in), unfolding(crate::specs::Triangles::emptied))]
 fn empty_triangle(rows: &mut [i32], halfedges: usize, e: Halfedge)
     requires { (halfedge_number e < halfedges) × InUse halfedges rows.old }
     ensures { rows.new ≡ emptied (halfedge_number e) rows.old }
@@ -22,6 +23,7 @@ fn empty_triangle(rows: &mut [i32], halfedges: usize, e: Halfedge)
 }
 
 // Pairs a and b and empties the triangle of e.
+#[tactic(auto, unfolding(crate::specs::Triangles::collapsed))]
 fn collapse_onto(rows: &mut [i32], halfedges: usize, e: Halfedge, a: Halfedge, b: Halfedge)
     requires { (halfedge_number a < halfedges) × ((halfedge_number b < halfedges) × ((halfedge_number e < halfedges) × InUse halfedges rows.old)) }
     ensures { rows.new ≡ collapsed (halfedge_number e) (halfedge_number a) (halfedge_number b) rows.old }
@@ -31,6 +33,7 @@ fn collapse_onto(rows: &mut [i32], halfedges: usize, e: Halfedge, a: Halfedge, b
 }
 
 // The step of collapse_tri: nothing where its second row's pair is −1; it stops where another partner isn't there.
+#[tactic(auto, using(crate::proofs::Parts::second_in, crate::proofs::Parts::third_in, numbers::proofs::Names::names_below), unfolding(crate::specs::Triangles::collapse))]
 pub fn collapse_step(rows: &mut [i32], halfedges: usize, run: Run, e: Halfedge) -> Run
     requires { (halfedge_number e < halfedges) × InUse halfedges rows.old }
     ensures { ((p : List ℕ) → middle rows.new p result ≡ collapse halfedges (halfedge_number e) (middle rows.old p run)) × (result.vertices ≡ run.vertices) }

@@ -11,6 +11,7 @@ use numbers::{Halfedge, Vertex};
 use steps::Run;
 
 // Where the walk goes from h: the partner of its next.
+#[tactic(auto, using(numbers::proofs::NextLaws::next_in), unfolding(crate::specs::Walk::onward))]
 pub fn onward(rows: &[i32], halfedges: usize, h: Halfedge) -> Option<Halfedge>
     requires { (halfedge_number h < halfedges) × InUse halfedges rows.now }
     ensures { halfedge_named result ≡ onward halfedges rows.now (halfedge_number h) }
@@ -37,6 +38,7 @@ pub fn reaches(rows: &[i32], halfedges: usize, start: Halfedge, end: Halfedge) -
 }
 
 // Sets the end of h and the start of its next, and says where the walk goes.
+#[tactic(auto, using(numbers::proofs::NextLaws::next_in), unfolding(crate::specs::Walk::onward, crate::specs::Walk::moved))]
 pub fn move_on(rows: &mut [i32], halfedges: usize, v: Vertex, h: Halfedge) -> Option<Halfedge>
     requires { (halfedge_number h < halfedges) × ((vertex_number v < 2 ^ 31) × InUse halfedges rows.old) }
     ensures { (halfedge_named result ≡ onward halfedges (moved (vertex_number v) (halfedge_number h) rows.old) (halfedge_number h)) × (rows.new ≡ moved (vertex_number v) (halfedge_number h) rows.old) }
@@ -72,6 +74,7 @@ pub fn walk_to(
 }
 
 // The step of update_vert: it stops where a partner isn't there, or where the walk never ends.
+#[tactic(auto, unfolding(crate::specs::Walk::update))]
 pub fn update_step(
     rows: &mut [i32],
     halfedges: usize,
