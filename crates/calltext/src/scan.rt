@@ -1,6 +1,6 @@
 // Numbers read from text: whatever is no digit and no minus sign stands between them.
-ghost use Rattle.std.specs.Prelude.{◌≡◌, ◌<◌, ◌≤◌, true, length, ◌==◌, slice_index};
-ghost use Rattle.calltext.specs.Scan.{is_digit, first_from, with_digit, digits_at, number_from, signed_of, count_of, word_of, byte_of, up_to, room, list_from};
+ghost use Rattle.std.specs.Prelude.{◌≡◌, ◌≤◌, length};
+ghost use Rattle.calltext.specs.Scan.{begins, first_from, with_digit, digits_at, number_from, signed_of, count_of, word_of, byte_of, list_from};
 
 // A number, and the place behind it.
 #[derive(Clone, Copy)]
@@ -17,75 +17,108 @@ pub struct Listed {
     pub next: usize,
 }
 
-fn is_digit(b: u8) -> bool
-    ensures { result ≡ is_digit b }
+// A type of which a list can be read: what it makes of a number.
+pub trait Readable: Copy {
+    ghost use Rattle.calltext.specs.declared.scan.Scanned.{Scanned};
+
+    ghost read_as: { Scanned → Self };
+
+    fn of(scanned: Scanned) -> Self
+        ensures { result ≡ read_as scanned };
+}
+
+// What does not fit is the least one.
+impl Readable for i32 {
+    ghost read_as = { signed_of };
+
+    fn of(scanned: Scanned) -> i32 {
+        match i32::try_from(scanned.magnitude) {
+            Ok(magnitude) => {
+                if scanned.negative {
+                    -magnitude
+                } else {
+                    magnitude
+                }
+            }
+            Err(_) => i32::MIN,
+        }
+    }
+}
+
+impl Readable for u64 {
+    ghost read_as = { count_of };
+
+    fn of(scanned: Scanned) -> u64 {
+        scanned.magnitude
+    }
+}
+
+// What does not fit is 0.
+impl Readable for u32 {
+    ghost read_as = { word_of };
+
+    fn of(scanned: Scanned) -> u32 {
+        u32::try_from(scanned.magnitude).unwrap_or(0)
+    }
+}
+
+// What does not fit is 0.
+impl Readable for u8 {
+    ghost read_as = { byte_of };
+
+    fn of(scanned: Scanned) -> u8 {
+        u8::try_from(scanned.magnitude).unwrap_or(0)
+    }
+}
+
+fn begins(b: u8) -> bool
+    ensures { result ≡ begins b }
 {
-    (b'0' <= b) & (b <= b'9')
+    b.is_ascii_digit() || b == b'-'
 }
 
 // The place of the next number, or the end.
 pub fn first(file: &[u8], at: usize) -> usize
     ensures { result ≡ first_from file.now at }
 {
-    let mut i = at;
-    while i < file.len() {
-        let b = file[i];
-        if is_digit(b) | (b == b'-') {
+    for i in at..file.len() {
+        if begins(file[i]) {
             return i;
         }
-        i += 1;
     }
-    i
-}
-
-fn wide(b: u8) -> u64
-    ensures { result ≡ b }
-{
-    b as u64
+    at.max(file.len())
 }
 
 // One digit more, as 64 bits have it.
 fn with_digit(n: u64, b: u8) -> u64
     ensures { result ≡ with_digit n b }
 {
-    if 1844674407370955161 < n {
+    if u64::MAX / 10 < n {
         return n;
     }
-    std::num::wrapping_add_u64(n * 10, wide(b) % 16)
+    (n * 10).wrapping_add(u64::from(b % 16))
 }
 
 // The digits from a place on.
 fn digits(file: &[u8], at: usize, negative: bool) -> Scanned
     ensures { result ≡ digits_at file.now at negative }
 {
-    let mut i = at;
-    let mut n: u64 = 0;
-    while i < file.len() {
-        let b = file[i];
-        if !is_digit(b) {
+    let mut magnitude = 0;
+    for next in at..file.len() {
+        if !file[next].is_ascii_digit() {
             return Scanned {
                 negative,
-                magnitude: n,
-                next: i,
+                magnitude,
+                next,
             };
         }
-        n = with_digit(n, b);
-        i += 1;
+        magnitude = with_digit(magnitude, file[next]);
     }
     Scanned {
         negative,
-        magnitude: n,
-        next: i,
+        magnitude,
+        next: at.max(file.len()),
     }
-}
-
-fn is_minus(file: &[u8], i: usize) -> bool
-    ensures { (result ≡ (slice_index file.now i == 45)) × (result ≡ true → i < length file.now) }
-{
-    if i < file.len() {
-        return file[i] == b'-';
-    }
-    false
 }
 
 // The next number from a place on.
@@ -93,117 +126,25 @@ pub fn number(file: &[u8], at: usize) -> Scanned
     ensures { result ≡ number_from file.now at }
 {
     let i = first(file, at);
-    if is_minus(file, i) {
-        return digits(file, i + 1, true);
+    if i < file.len() && file[i] == b'-' {
+        digits(file, i + 1, true)
+    } else {
+        digits(file, i, false)
     }
-    digits(file, i, false)
 }
 
-// A number of 32 bits; what does not fit is the least one.
-fn signed(s: Scanned) -> i32
-    ensures { result ≡ signed_of s }
-{
-    if 2147483647 < s.magnitude {
-        return -2147483648;
-    }
-    let m = s.magnitude;
-    let x = m as i32;
-    if s.negative { 0 - x } else { x }
-}
-
-// How many numbers there are, or how many there is room for.
-fn room(count: u64, long: usize) -> usize
-    ensures { (result ≡ room count long) × (result ≤ long) }
-{
-    if count < long as u64 {
-        return count as usize;
-    }
-    long
-}
-
-// A list of numbers with signs: its length, then the numbers, as many as there is room for.
-pub fn signed_list(file: &[u8], at: usize, into: &mut [i32]) -> Listed
-    ensures { ((into.new, result) ≡ list_from signed_of file.now at into.old) × (result.length ≤ length into.new) }
+// A list: its length, then its numbers, as many as there is room for.
+pub fn list<T: Readable>(file: &[u8], at: usize, into: &mut [T]) -> Listed
+    ensures filled { (into.new, result) ≡ list_from T.read_as file.now at into.old }
+    ensures within { result.length ≤ length into.new }
 {
     let count = number(file, at);
-    let n = room(count.magnitude, into.len());
+    let length = into.len().min(count.magnitude as usize);
     let mut next = count.next;
-    let mut k = 0;
-    while k < n {
-        let s = number(file, next);
-        into[k] = signed(s);
-        next = s.next;
-        k += 1;
+    for element in into[..length].iter_mut() {
+        let scanned = number(file, next);
+        *element = T::of(scanned);
+        next = scanned.next;
     }
-    Listed { length: n, next }
-}
-
-// A list of numbers without signs.
-pub fn list(file: &[u8], at: usize, into: &mut [u64]) -> Listed
-    ensures { ((into.new, result) ≡ list_from count_of file.now at into.old) × (result.length ≤ length into.new) }
-{
-    let count = number(file, at);
-    let n = room(count.magnitude, into.len());
-    let mut next = count.next;
-    let mut k = 0;
-    while k < n {
-        let s = number(file, next);
-        into[k] = s.magnitude;
-        next = s.next;
-        k += 1;
-    }
-    Listed { length: n, next }
-}
-
-// A number of 32 bits without sign, and of 8; what does not fit is 0.
-fn word(n: u64) -> u32
-    ensures { result ≡ up_to 4294967295 n }
-{
-    if 4294967295 < n {
-        return 0;
-    }
-    n as u32
-}
-
-fn byte(n: u64) -> u8
-    ensures { result ≡ up_to 255 n }
-{
-    if 255 < n {
-        return 0;
-    }
-    n as u8
-}
-
-// A list of numbers of 32 bits without sign.
-pub fn words(file: &[u8], at: usize, into: &mut [u32]) -> Listed
-    ensures { ((into.new, result) ≡ list_from word_of file.now at into.old) × (result.length ≤ length into.new) }
-{
-    let count = number(file, at);
-    let n = room(count.magnitude, into.len());
-    let mut next = count.next;
-    let mut k = 0;
-    while k < n {
-        let s = number(file, next);
-        into[k] = word(s.magnitude);
-        next = s.next;
-        k += 1;
-    }
-    Listed { length: n, next }
-}
-
-// A list of bytes.
-pub fn bytes(file: &[u8], at: usize, into: &mut [u8]) -> Listed
-    ensures { ((into.new, result) ≡ list_from byte_of file.now at into.old) × (result.length ≤ length into.new) }
-{
-    let count = number(file, at);
-    let n = room(count.magnitude, into.len());
-    let mut next = count.next;
-    let mut k = 0;
-    while k < n {
-        let s = number(file, next);
-        into[k] = byte(s.magnitude);
-        next = s.next;
-        k += 1;
-    }
-    Listed { length: n, next }
+    Listed { length, next }
 }

@@ -1,120 +1,113 @@
 // What a call says and leaves, put into a lent buffer as lines of text, piece by piece; a piece that does not fit is left out.
-ghost use Rattle.std.specs.Prelude.{◌≡◌, ◌∷◌};
-ghost use Rattle.texts.specs.Put.{puts, signed_pieces};
-ghost use Rattle.calltext.specs.Shown.{ended, blank, answered, counted, with_sign, plain, listed};
+#![tactic(auto, unfolding(texts::specs::Put::puts))]
 
-pub fn end(out: &mut [u8], used: usize) -> usize
-    ensures { (out.new, result) ≡ puts ended (out.old, used) }
-{
-    texts::put(out, used, b"\n")
+ghost use Rattle.std.specs.Prelude.{◌∷◌, [], List, ℕ};
+ghost use Rattle.digits.specs.Written.{decimal};
+ghost use Rattle.texts.specs.Put.{signed_pieces};
+ghost use Rattle.calltext.specs.Shown.{ended, answered, plain, listed};
+ghost use Rattle.calltext.specs.Page.{Puts};
+
+// A lent buffer, and how many of its bytes are in use.
+#[derive(Drop)]
+pub struct Page<'a> {
+    pub out: &'a mut [u8],
+    pub used: usize,
 }
 
-// The entry's name, and the answer's number.
-pub fn number(out: &mut [u8], used: usize, entry: &[u8], number: u32) -> usize
-    ensures { (out.new, result) ≡ puts (answered entry.now number) (out.old, used) }
-{
-    let a = texts::put(out, used, entry);
-    let b = texts::put(out, a, b" answer=");
-    texts::put_decimal(out, b, number as u64)
+// A type of which a value can be put: the pieces of text that it makes.
+pub trait Showable: Copy {
+    ghost pieces: { Self → List (List ℕ) };
+
+    fn put(self, page: &mut Page)
+        ensures { Puts (pieces self) page.old page.new };
 }
 
-pub fn count(out: &mut [u8], used: usize, name: &[u8], n: u64) -> usize
-    ensures { (out.new, result) ≡ puts (counted name.now n) (out.old, used) }
-{
-    let a = texts::put(out, used, name);
-    texts::put_decimal(out, a, n)
-}
+impl Showable for i32 {
+    ghost pieces = { signed_pieces };
 
-fn put_signed(out: &mut [u8], used: usize, x: i32) -> usize
-    ensures { (out.new, result) ≡ puts (signed_pieces x) (out.old, used) }
-{
-    let wide = x as i64;
-    if wide < 0 {
-        let a = texts::put(out, used, b"-");
-        let m = 0 - wide;
-        return texts::put_decimal(out, a, m as u64);
+    fn put(self, page: &mut Page) {
+        if self < 0 {
+            page.bytes(b"-");
+        }
+        page.decimal(u64::from(self.unsigned_abs()));
     }
-    texts::put_decimal(out, used, wide as u64)
 }
 
-pub fn signed(out: &mut [u8], used: usize, name: &[u8], x: i32) -> usize
-    ensures { (out.new, result) ≡ puts (with_sign name.now x) (out.old, used) }
-{
-    let a = texts::put(out, used, name);
-    put_signed(out, a, x)
-}
+impl Showable for u64 {
+    ghost pieces = { plain };
 
-// A blank and a number, of a list.
-fn next_signed(out: &mut [u8], used: usize, x: i32) -> usize
-    ensures { (out.new, result) ≡ puts (blank ∷ signed_pieces x) (out.old, used) }
-{
-    let a = texts::put(out, used, b" ");
-    put_signed(out, a, x)
-}
-
-fn next_plain(out: &mut [u8], used: usize, n: u64) -> usize
-    ensures { (out.new, result) ≡ puts (blank ∷ plain n) (out.old, used) }
-{
-    let a = texts::put(out, used, b" ");
-    texts::put_decimal(out, a, n)
-}
-
-pub fn signed_list(out: &mut [u8], used: usize, name: &[u8], values: &[i32]) -> usize
-    ensures { (out.new, result) ≡ puts (listed signed_pieces name.now values.now) (out.old, used) }
-{
-    let mut at = texts::put(out, used, name);
-    let mut i = 0;
-    while i < values.len() {
-        at = next_signed(out, at, values[i]);
-        i += 1;
+    fn put(self, page: &mut Page) {
+        page.decimal(self);
     }
-    end(out, at)
 }
 
-pub fn list(out: &mut [u8], used: usize, name: &[u8], values: &[u64]) -> usize
-    ensures { (out.new, result) ≡ puts (listed plain name.now values.now) (out.old, used) }
-{
-    let mut at = texts::put(out, used, name);
-    let mut i = 0;
-    while i < values.len() {
-        at = next_plain(out, at, values[i]);
-        i += 1;
+impl Showable for usize {
+    ghost pieces = { plain };
+
+    fn put(self, page: &mut Page) {
+        page.decimal(self as u64);
     }
-    end(out, at)
 }
 
-fn of_word(n: u32) -> u64
-    ensures { result ≡ n }
-{
-    n as u64
-}
+impl Showable for u32 {
+    ghost pieces = { plain };
 
-pub fn words(out: &mut [u8], used: usize, name: &[u8], values: &[u32]) -> usize
-    ensures { (out.new, result) ≡ puts (listed plain name.now values.now) (out.old, used) }
-{
-    let mut at = texts::put(out, used, name);
-    let mut i = 0;
-    while i < values.len() {
-        at = next_plain(out, at, of_word(values[i]));
-        i += 1;
+    fn put(self, page: &mut Page) {
+        page.decimal(u64::from(self));
     }
-    end(out, at)
 }
 
-fn of_byte(n: u8) -> u64
-    ensures { result ≡ n }
-{
-    n as u64
-}
+impl Showable for u8 {
+    ghost pieces = { plain };
 
-pub fn bytes(out: &mut [u8], used: usize, name: &[u8], values: &[u8]) -> usize
-    ensures { (out.new, result) ≡ puts (listed plain name.now values.now) (out.old, used) }
-{
-    let mut at = texts::put(out, used, name);
-    let mut i = 0;
-    while i < values.len() {
-        at = next_plain(out, at, of_byte(values[i]));
-        i += 1;
+    fn put(self, page: &mut Page) {
+        page.decimal(u64::from(self));
     }
-    end(out, at)
+}
+
+impl Page<'_> {
+    fn bytes(&mut self, bytes: &[u8])
+        ensures { Puts (bytes.now ∷ []) self.old self.new }
+    {
+        self.used = texts::put(self.out, self.used, bytes);
+    }
+
+    fn decimal(&mut self, n: u64)
+        ensures { Puts (decimal n ∷ []) self.old self.new }
+    {
+        self.used = texts::put_decimal(self.out, self.used, n);
+    }
+
+    pub fn end(&mut self)
+        ensures { Puts ended self.old self.new }
+    {
+        self.bytes(b"\n");
+    }
+
+    // The entry's name, and the answer's number.
+    pub fn number(&mut self, entry: &[u8], number: u32)
+        ensures { Puts (answered entry.now number) self.old self.new }
+    {
+        self.bytes(entry);
+        self.value(b" answer=", number);
+    }
+
+    // A name and a value.
+    pub fn value<T: Showable>(&mut self, name: &[u8], value: T)
+        ensures { Puts (name.now ∷ T.pieces value) self.old self.new }
+    {
+        self.bytes(name);
+        value.put(self);
+    }
+
+    // A name and a list on a line, a blank before each of its values.
+    pub fn list<T: Showable>(&mut self, name: &[u8], values: &[T])
+        ensures { Puts (listed T.pieces name.now values.now) self.old self.new }
+    {
+        self.bytes(name);
+        for value in values {
+            self.value(b" ", *value);
+        }
+        self.end();
+    }
 }

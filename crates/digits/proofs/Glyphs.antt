@@ -1,15 +1,18 @@
 -- A digit's byte and a byte's digit; and how a written number grows by a digit.
 use mathlib.Core.Path.{◌≡◌, refl, ◌∙◌}
-use mathlib.Core.Bool.{◌&&◌}
+use mathlib.Core.Bool.{true, ◌&&◌}
 use mathlib.Core.List.{[], ◌∷◌, ◌++◌}
 use Prim.Native.Nat.{ℕ, zero, suc, ◌+◌, ◌-◌, ◌*◌, ◌/◌, ◌%◌, ◌≤◌, ◌<◌}
 use native.Mathlib.Omega.{arith}
-use borrow.Author.Tests.{ltb-true, ltb-false, lt-ltb, le-ltb, le-leb, lt-leb}
+use borrow.Author.Tests.{leb-true, ltb-true, ltb-false, lt-ltb, le-ltb, le-leb, lt-leb}
 use lib.Dec.{ltb, leb}
-use Rattle.laws.proofs.Tests.{by_test, both2}
+use Rattle.laws.proofs.Tests.{by_test, and2, both2}
 use Rattle.digits.specs.Steps.{digit}
 use Rattle.digits.specs.Written.{glyph, decimal_in, decimal, hex_digits}
-use Rattle.digits.proofs.Turns.{between}
+
+-- a test of both ends
+between : (a x b : ℕ) → leb a x && leb x b ≡ true → (a ≤ x) × (x ≤ b)
+between a x b e = let p = and2 (leb a x) (leb x b) e in (leb-true a x p.0, leb-true x b p.1)
 
 pub digit_glyph : (d : ℕ) → d < 16 → digit (glyph d) ≡ d
 unfolding digit glyph

@@ -11,11 +11,6 @@ abbrev pub on : {A B : Type 0} → Got A → (A → List ℕ → B) → B → B
 on (got a s) f b = f a s
 on bad f b = b
 
--- one byte, whichever it is
-abbrev pub first_byte : List ℕ → Got ℕ
-first_byte [] = bad
-first_byte (b ∷ s) = got b s
-
 -- the bytes of w
 unfoldable pub after : List ℕ → List ℕ → Got ℕ
 after [] s = got 0 s
@@ -50,12 +45,15 @@ hex_from zero s v = got v s
 hex_from (suc k) [] v = bad
 hex_from (suc k) (b ∷ s) v = cond (ltb (digit b) 16) (hex_from k s (16 * v + digit b)) bad
 
--- each with the byte that must follow it
+-- what was got, with the byte that must follow it
+abbrev pub then_byte : {A : Type 0} → ℕ → Got A → Got A
+then_byte b g = on g (λ n t. on (after (b ∷ []) t) (λ _ r. got n r) bad) bad
+
 unfoldable pub count_then : ℕ → List ℕ → Got ℕ
-count_then b s = on (count s) (λ n t. on (after (b ∷ []) t) (λ _ r. got n r) bad) bad
+count_then b s = then_byte b (count s)
 
 unfoldable pub number_then : ℕ → List ℕ → Got ℤ
-number_then b s = on (number s) (λ n t. on (after (b ∷ []) t) (λ _ r. got n r) bad) bad
+number_then b s = then_byte b (number s)
 
 unfoldable pub hex_then : ℕ → List ℕ → Got ℕ
-hex_then b s = on (hex_from 16 s 0) (λ n t. on (after (b ∷ []) t) (λ _ r. got n r) bad) bad
+hex_then b s = then_byte b (hex_from 16 s 0)

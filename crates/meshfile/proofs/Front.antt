@@ -16,7 +16,7 @@ use Rattle.digits.specs.Written.{glyph, decimal, signed, hex_digits}
 use Rattle.digits.proofs.Glyphs.{decimal_one, decimal_more}
 use Rattle.rows.specs.declared.halfedges.Row.{Row}
 use Rattle.rows.specs.declared.triples.Bits3.{Bits3}
-use Rattle.meshfile.specs.declared.Limits.{Limits}
+use Rattle.meshfile.specs.declared.Size.{Size}
 use Rattle.meshfile.specs.Format.{form_line, verts_word, tris_word, count_line, position_line, halfedge_line, PositionFits, RowFits, all, Each, NoLine, headed, file, Few, FirstBad, bad_form, bad_verts, bad_tris, bad_position, bad_halfedge, more_text}
 use Rattle.meshfile.specs.Steps.{Found, holding, too_large, first_bad, found, Means}
 use Rattle.meshfile.proofs.Right.{finds_right, right_found}
@@ -105,7 +105,7 @@ module _ (vertices triangles : ℕ) (v : IsCount vertices) (t : IsCount triangle
       ∙ front n (headed vertices triangles x) rest (omega (arith, headed_short x))
       ∙ joined vertices triangles x (take (n - length (headed vertices triangles x)) rest)
 
-module _ (most : Limits) (few_vertices : most.vertices ≤ 256) (few_triangles : most.triangles ≤ 256) (n : ℕ) (long : 65536 ≤ n) where
+module _ (most : Size) (few_vertices : most.vertices ≤ 256) (few_triangles : most.triangles ≤ 256) (n : ℕ) (long : 65536 ≤ n) where
   counts : {vertices triangles : ℕ} → Few most vertices triangles → IsCount vertices × IsCount triangles
   counts f = (omega (arith, f.vertices_few), omega (arith, f.triangles_few))
 

@@ -16,13 +16,13 @@ use Rattle.digits.proofs.Gots.{never}
 use Rattle.digits.proofs.Right.{after_takes, after_took}
 use Rattle.rows.specs.declared.halfedges.Row.{Row}
 use Rattle.rows.specs.declared.triples.Bits3.{Bits3}
-use Rattle.meshfile.specs.declared.Limits.{Limits}
+use Rattle.meshfile.specs.declared.Size.{Size}
 use Rattle.meshfile.specs.Format.{form_line, verts_word, tris_word, count_line, position_line, halfedge_line, PositionFits, RowFits, all, Each, NoLine, headed, file, Few, Holds, FirstBad, bad_form, bad_verts, bad_tris, bad_position, bad_halfedge, more_text}
 use Rattle.meshfile.specs.Steps.{count_step, position_step, halfedge_step, Header, header, no_header, header_of, Lines, lines, bad_line, lines_of, on_lines, Found, holding, too_large, first_bad, at_end, body_of, from_header, found, Means}
 use Rattle.meshfile.proofs.Turns.{neither}
 use Rattle.meshfile.proofs.Lines.{count_right, position_right, halfedge_right, no_line, no_step, Read, lines_took, lines_bad, lines_takes, lines_refused}
 
-module _ (most : Limits) where
+module _ (most : Size) where
   -- the three first lines
   data HeaderIs (text : List ℕ) : Header → Type 0 where
     good : (v t : ℕ) (s : List ℕ) → IsCount v → IsCount t → text ≡ headed v t s → HeaderIs text (header v t s)

@@ -9,8 +9,10 @@ use lib.IntN.{ℤ, pos}
 use Rattle.answers.specs.Answers.{Value, whole}
 use Rattle.answers.proofs.Laws.{numbers_differ, values_agree}
 use Rattle.laws.proofs.Integers.{pos_inj}
-use Rattle.meshfile.specs.declared.Mesh.{Mesh}
-use Rattle.meshfile.specs.declared.Mesh.TheVariants as M
+use Rattle.std.specs.Prelude.{Result, Ok, Err}
+use Rattle.meshfile.specs.declared.Size.{Size}
+use Rattle.meshfile.specs.declared.MeshError.{MeshError}
+use Rattle.meshfile.specs.declared.MeshError.TheVariants as E
 use Rattle.meshfile.specs.Steps.{Found, found, Means}
 use Rattle.meshfile.specs.Told.{limits_of, Reading, reading, mesh_said, read_mesh}
 use Rattle.meshfile.proofs.Right.{finds_right, right_found}
@@ -25,23 +27,23 @@ found_exactly text halfedges positions f = (
 first_value : (a b : ℕ) (l m : List Value) → whole (pos a) ∷ l ≡ whole (pos b) ∷ m → a ≡ b
 first_value a b l m e = let q : pos a ≡ pos b = cc in pos_inj q
 
-same : (a b : Mesh) → mesh_said a ≡ mesh_said b → a ≡ b
-same (M.Read v t) (M.Read w u) e =
+same : (a b : Result Size MeshError) → mesh_said a ≡ mesh_said b → a ≡ b
+same (Ok s) (Ok t) e =
     let p = values_agree e in
-    let q : v ≡ w = first_value v w _ _ p in
-    let r : whole (pos t) ∷ [] ≡ whole (pos u) ∷ [] = cc in
-    let s : t ≡ u = first_value t u _ _ r in
-    λ i. M.Read (q i) (s i)
-same (M.Read v t) M.TooLarge e = numbers_differ e (λ z. omega arith)
-same (M.Read v t) (M.Bad l) e = numbers_differ e (λ z. omega arith)
-same M.TooLarge (M.Read w u) e = numbers_differ e (λ z. omega arith)
-same M.TooLarge M.TooLarge e = refl
-same M.TooLarge (M.Bad l) e = numbers_differ e (λ z. omega arith)
-same (M.Bad k) (M.Read w u) e = numbers_differ e (λ z. omega arith)
-same (M.Bad k) M.TooLarge e = numbers_differ e (λ z. omega arith)
-same (M.Bad k) (M.Bad l) e = let q : k ≡ l = first_value k l _ _ (values_agree e) in λ i. M.Bad (q i)
+    let q : s.vertices ≡ t.vertices = first_value s.vertices t.vertices _ _ p in
+    let r : whole (pos s.triangles) ∷ [] ≡ whole (pos t.triangles) ∷ [] = cc in
+    let u : s.triangles ≡ t.triangles = first_value s.triangles t.triangles _ _ r in
+    λ i. Ok (record { vertices = q i; triangles = u i })
+same (Ok s) (Err E.TooLarge) e = numbers_differ e (λ z. omega arith)
+same (Ok s) (Err (E.BadLine l)) e = numbers_differ e (λ z. omega arith)
+same (Err E.TooLarge) (Ok t) e = numbers_differ e (λ z. omega arith)
+same (Err E.TooLarge) (Err E.TooLarge) e = refl
+same (Err E.TooLarge) (Err (E.BadLine l)) e = numbers_differ e (λ z. omega arith)
+same (Err (E.BadLine k)) (Ok t) e = numbers_differ e (λ z. omega arith)
+same (Err (E.BadLine k)) (Err E.TooLarge) e = numbers_differ e (λ z. omega arith)
+same (Err (E.BadLine k)) (Err (E.BadLine l)) e = let q : k ≡ l = first_value k l _ _ (values_agree e) in λ i. Err (E.BadLine (q i))
 
-pub read_agree : (text : List ℕ) (h : List ℤ) (p : List ℕ) (a b : Mesh) (ha hb : List ℤ) (pa pb : List ℕ) → reading (mesh_said a) ha pa ≡ read_mesh text h p → reading (mesh_said b) hb pb ≡ read_mesh text h p → (a ≡ b) × (ha ≡ hb) × (pa ≡ pb)
+pub read_agree : (text : List ℕ) (h : List ℤ) (p : List ℕ) (a b : Result Size MeshError) (ha hb : List ℤ) (pa pb : List ℕ) → reading (mesh_said a) ha pa ≡ read_mesh text h p → reading (mesh_said b) hb pb ≡ read_mesh text h p → (a ≡ b) × (ha ≡ hb) × (pa ≡ pb)
 read_agree text h p a b ha hb pa pb x y =
     let e = x ∙ sym y in
     (same a b (ap (λ (r : Reading). r.said) e), ap (λ (r : Reading). r.halfedges) e, ap (λ (r : Reading). r.positions) e)

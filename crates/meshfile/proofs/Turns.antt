@@ -5,14 +5,17 @@ use Prim.Native.Nat.{ℕ, zero, suc, ◌+◌, ◌-◌, ◌≤◌, ◌<◌}
 use native.Mathlib.Omega.{arith}
 use mathlib.Core.Bool.{false, ◌||◌}
 use borrow.Author.Tests.{ltb-false}
-use lib.Dec.{ltb}
+use lib.Dec.{ltb, eqb}
+use lib.ListN.{length}
 use Rattle.laws.proofs.Tests.{not_both, by_test, or_left}
 use Rattle.digits.specs.Steps.{Got, got, bad, on}
-use Rattle.meshfile.specs.declared.Limits.{Limits}
+use Rattle.std.specs.Prelude.{Result, Ok, Err}
 use Rattle.meshfile.specs.declared.Checked.{Checked}
-use Rattle.meshfile.specs.declared.Checked.TheVariants as C
-use Rattle.meshfile.specs.Steps.{Lines, lines, bad_line, behind, lines_of, taken}
-use Rattle.meshfile.specs.Told.{passed, stopped_at, outline, laid, Within}
+use Rattle.std.specs.Result.{IsErrAnd}
+use Rattle.meshfile.specs.declared.MeshError.{MeshError}
+use Rattle.meshfile.specs.declared.MeshError.TheVariants as E
+use Rattle.meshfile.specs.Steps.{Lines, lines, bad_line, behind, lines_of, taken, Found, first_bad, at_end}
+use Rattle.meshfile.specs.Told.{passed, stopped_at, outline, laid, checked_told}
 
 module _ {A : Type 0} where
   outline_behind : (a : A) (l : Lines A) → outline l ≡ outline (behind a l)
@@ -61,11 +64,15 @@ neither a b c d e =
     (λ p. not_both (ltb a b || ltb c d) (or_left (ltb a b) (ltb c d) p) e)
     (λ p. (ltb-false a b p, ltb-false c d (rw p at e)))
 
--- smaller limits
-pub within_more : (m n : Limits) (r : Checked) → m.vertices ≤ n.vertices → m.triangles ≤ n.triangles → Within m r → Within n r
-within_more m n (C.Good v t f s) h l w = (omega arith, omega arith)
-within_more m n C.TooLarge h l w = tt
-within_more m n (C.Bad line) h l w = tt
+-- a bad line, as the reader answers it
+pub told_bad : (r : Result Checked MeshError) (k : ℕ) → IsErrAnd r (λ e. e ≡ E.BadLine k) → checked_told r ≡ first_bad k
+told_bad (Ok f) k h = absurd h
+told_bad (Err e) k h = rw h
+
+-- something follows
+pub at_more : (s : List ℕ) (whole more : Found) → false ≡ eqb (length s) 0 → more ≡ at_end s whole more
+at_more [] whole more e = let z : ◌≡◌ {A = ℕ} 0 1 = cc in absurd (omega arith)
+at_more (b ∷ s) whole more e = refl
 
 -- the same lines, put into rows
 module _ {A B : Type 0} (step : List ℕ → Got A) (put : ℕ → A → List B → List B) (n i : ℕ) (s : List ℕ) (rows : List B) where

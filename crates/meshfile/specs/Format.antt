@@ -4,7 +4,7 @@ use Rattle.std.specs.Prelude.{List, [], ◌∷◌, ◌++◌, ◌≡◌, ℕ, ◌
 use Rattle.digits.specs.Exact.{IsCount, IsNumber, IsPattern}
 use Rattle.digits.specs.Written.{newline, comma, decimal, signed, hex}
 use Rattle.rows.specs.declared.halfedges.Row.{Row}
-use Rattle.meshfile.specs.declared.Limits.{Limits}
+use Rattle.meshfile.specs.declared.Size.{Size}
 use Rattle.rows.specs.declared.triples.Bits3.{Bits3}
 
 -- form=1
@@ -76,7 +76,7 @@ abbrev pub file : ℕ → ℕ → List Bits3 → List Row → List ℕ → List 
 file vertices triangles ps hs rest = headed vertices triangles (all position_line ps ++ (all halfedge_line hs ++ rest))
 
 -- the counts are within the limits: of half-edges, three times as many as triangles
-pub record Few (most : Limits) (vertices triangles : ℕ) : Type 0 where
+pub record Few (most : Size) (vertices triangles : ℕ) : Type 0 where
   pub vertices_few : vertices ≤ most.vertices
   pub triangles_few : triangles ≤ most.triangles
 
@@ -88,13 +88,13 @@ pub record Holds (vertices triangles : ℕ) (ps : List Bits3) (hs : List Row) : 
   pub rows_fit : Each RowFits hs
 
 -- well formed, with these positions and rows: each line as it is written, and nothing behind the last
-pub record WellFormed (most : Limits) (text : List ℕ) (vertices triangles : ℕ) (ps : List Bits3) (hs : List Row) : Type 0 where
+pub record WellFormed (most : Size) (text : List ℕ) (vertices triangles : ℕ) (ps : List Bits3) (hs : List Row) : Type 0 where
   pub few : Few most vertices triangles
   pub holds : Holds vertices triangles ps hs
   pub written : text ≡ file vertices triangles ps hs []
 
 -- three good first lines that say more than a file may have, whatever stands behind them
-pub record TooLarge (most : Limits) (text : List ℕ) : Type 0 where
+pub record TooLarge (most : Size) (text : List ℕ) : Type 0 where
   pub vertices : ℕ
   pub triangles : ℕ
   pub rest : List ℕ
@@ -104,7 +104,7 @@ pub record TooLarge (most : Limits) (text : List ℕ) : Type 0 where
   pub written : text ≡ headed vertices triangles rest
 
 -- the number of the first bad line: those before it are good, and no good line of its kind stands there
-pub data FirstBad (most : Limits) (text : List ℕ) : ℕ → Type 0 where
+pub data FirstBad (most : Size) (text : List ℕ) : ℕ → Type 0 where
   bad_form : ((rest : List ℕ) → text ≡ form_line ++ rest → ⊥) → FirstBad most text 1
   bad_verts : (rest : List ℕ) → text ≡ form_line ++ rest → NoLine (count_line verts_word) IsCount rest → FirstBad most text 2
   bad_tris : (vertices : ℕ) (rest : List ℕ) → IsCount vertices → text ≡ form_line ++ (count_line verts_word vertices ++ rest)

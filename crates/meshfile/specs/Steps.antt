@@ -6,7 +6,7 @@ use Rattle.digits.specs.Written.{newline, comma}
 use Rattle.rows.specs.declared.halfedges.Row.{Row}
 use Rattle.rows.specs.declared.triples.Bits3.{Bits3}
 use Rattle.meshfile.specs.Format.{form_line, verts_word, tris_word, position_word, halfedge_word, WellFormed, TooLarge, FirstBad}
-use Rattle.meshfile.specs.declared.Limits.{Limits}
+use Rattle.meshfile.specs.declared.Size.{Size}
 
 -- the steps of a line
 unfoldable pub count_step : List ℕ → List ℕ → Got ℕ
@@ -89,16 +89,16 @@ body_of vertices triangles s =
     first_bad)
     first_bad
 
-abbrev pub from_header : Limits → Header → Found
+abbrev pub from_header : Size → Header → Found
 from_header most (header vertices triangles s) =
     cond (ltb most.vertices vertices || ltb most.triangles triangles) too_large (body_of vertices triangles s)
 from_header most (no_header line) = first_bad line
 
-unfoldable pub found : Limits → List ℕ → Found
+unfoldable pub found : Size → List ℕ → Found
 found most text = from_header most (header_of text)
 
 -- what it says of the text, in the words of the format
-abbrev pub Means : Limits → List ℕ → Found → Type 0
+abbrev pub Means : Size → List ℕ → Found → Type 0
 Means most text (holding vertices triangles ps hs) = WellFormed most text vertices triangles ps hs
 Means most text too_large = TooLarge most text
 Means most text (first_bad line) = FirstBad most text line

@@ -1,37 +1,19 @@
 -- What the reader's answers say, and what it leaves in the lent arrays.
-use Rattle.std.specs.Prelude.{List, [], ◌∷◌, ℕ, ◌+◌, ◌*◌, ◌/◌, ◌≤◌, min, ℤ, pos, drop}
+use Rattle.std.specs.Prelude.{List, [], ◌∷◌, ℕ, ◌+◌, ◌*◌, ◌/◌, ◌≤◌, min, ℤ, pos, Result, Ok, Err, IfOk}
+use Rattle.std.specs.Borrow.{Bor}
 use Rattle.answers.specs.Answers.{Said, whole, done, shape, bad_file}
-use Rattle.digits.specs.Steps.{Got, got, bad}
-use Rattle.rows.specs.declared.halfedges.Row.{Row}
-use Rattle.rows.specs.declared.triples.Bits3.{Bits3}
 use Rattle.rows.specs.Halfedges.{lent_halfedges, append_row}
 use Rattle.rows.specs.Triples.{lent_triples, put_triple}
-use Rattle.meshfile.specs.declared.Limits.{Limits}
-use Rattle.meshfile.specs.declared.PositionLine.{PositionLine}
-use Rattle.meshfile.specs.declared.PositionLine.TheVariants as P
-use Rattle.meshfile.specs.declared.HalfedgeLine.{HalfedgeLine}
-use Rattle.meshfile.specs.declared.HalfedgeLine.TheVariants as H
-use Rattle.meshfile.specs.declared.FirstLines.{FirstLines}
-use Rattle.meshfile.specs.declared.FirstLines.TheVariants as F
-use Rattle.meshfile.specs.declared.Passed.{Passed}
-use Rattle.meshfile.specs.declared.Passed.TheVariants as Q
+use Rattle.meshfile.specs.declared.Size.{Size}
 use Rattle.meshfile.specs.declared.Checked.{Checked}
-use Rattle.meshfile.specs.declared.Checked.TheVariants as C
-use Rattle.meshfile.specs.declared.Mesh.{Mesh}
-use Rattle.meshfile.specs.declared.Mesh.TheVariants as M
+use Rattle.meshfile.specs.declared.BadLine.{BadLine}
+use Rattle.meshfile.specs.declared.MeshError.{MeshError}
+use Rattle.meshfile.specs.declared.MeshError.TheVariants as E
 use Rattle.meshfile.specs.Steps.{Header, header, no_header, Lines, lines, bad_line, Found, holding, too_large, first_bad, found, taken, position_step, halfedge_step}
 
-abbrev pub position_got : List ℕ → PositionLine → Got Bits3
-position_got text (P.Is p next) = got p (drop next text)
-position_got text P.Bad = bad
-
-abbrev pub halfedge_got : List ℕ → HalfedgeLine → Got Row
-halfedge_got text (H.Is r next) = got r (drop next text)
-halfedge_got text H.Bad = bad
-
-abbrev pub header_told : List ℕ → FirstLines → Header
-header_told text (F.Are vertices triangles next) = header vertices triangles (drop next text)
-header_told text (F.Bad line) = no_header line
+abbrev pub header_told : Result (Size × Bor (List ℕ)) BadLine → Header
+header_told (Ok p) = header p.0.vertices p.0.triangles p.1.now
+header_told (Err line) = no_header line.0
 
 -- lines that were checked: where they end, or the bad one
 pub data Outline : Type 0 where
@@ -42,27 +24,27 @@ abbrev pub outline : {A : Type 0} → Lines A → Outline
 outline (lines l s) = passed s
 outline (bad_line k) = stopped_at k
 
-abbrev pub passed_told : List ℕ → Passed → Outline
-passed_told text (Q.To next) = passed (drop next text)
-passed_told text (Q.Bad line) = stopped_at line
+abbrev pub passed_told : Result (Bor (List ℕ)) BadLine → Outline
+passed_told (Ok rest) = passed rest.now
+passed_told (Err line) = stopped_at line.0
 
 -- a checked file: its positions and rows are those that stand at the two places
-abbrev pub checked_told : List ℕ → Checked → Found
-checked_told text (C.Good vertices triangles first second) =
-    holding vertices triangles (taken position_step vertices (drop first text)) (taken halfedge_step (3 * triangles) (drop second text))
-checked_told text C.TooLarge = too_large
-checked_told text (C.Bad line) = first_bad line
+abbrev pub checked_told : Result Checked MeshError → Found
+checked_told (Ok f) =
+    holding f.size.vertices f.size.triangles
+    (taken position_step f.size.vertices f.positions.now)
+    (taken halfedge_step (3 * f.size.triangles) f.halfedges.now)
+checked_told (Err E.TooLarge) = too_large
+checked_told (Err (E.BadLine line)) = first_bad line
 
-abbrev pub limited : ℕ → ℕ → Limits
+abbrev pub limited : ℕ → ℕ → Size
 limited vertices triangles = record { vertices = vertices; triangles = triangles }
 
-abbrev pub Within : Limits → Checked → Type 0
-Within most (C.Good vertices triangles first second) = (vertices ≤ most.vertices) × (triangles ≤ most.triangles)
-Within most C.TooLarge = Unit {0}
-Within most (C.Bad line) = Unit {0}
+abbrev pub Within : Size → Result Checked MeshError → Type 0
+Within most result = IfOk result (λ f. (f.size.vertices ≤ most.vertices) × (f.size.triangles ≤ most.triangles))
 
 -- at most 256 vertices and 768 half-edges, and no more than the arrays hold
-abbrev pub limits_of : List ℤ → List ℕ → Limits
+abbrev pub limits_of : List ℤ → List ℕ → Size
 limits_of halfedges positions = limited (min 256 (lent_triples positions)) (min 256 (lent_halfedges halfedges / 3))
 
 -- values put into the rows from `used` on
@@ -79,10 +61,10 @@ pub record Reading : Type 0 where
 abbrev pub reading : Said → List ℤ → List ℕ → Reading
 reading s h p = record { said = s; halfedges = h; positions = p }
 
-abbrev pub mesh_said : Mesh → Said
-mesh_said (M.Read vertices triangles) = done (whole (pos vertices) ∷ whole (pos triangles) ∷ [])
-mesh_said M.TooLarge = shape
-mesh_said (M.Bad line) = bad_file line
+abbrev pub mesh_said : Result Size MeshError → Said
+mesh_said (Ok size) = done (whole (pos size.vertices) ∷ whole (pos size.triangles) ∷ [])
+mesh_said (Err E.TooLarge) = shape
+mesh_said (Err (E.BadLine line)) = bad_file line
 
 abbrev pub found_left : Found → List ℤ → List ℕ → Reading
 found_left (holding vertices triangles ps hs) halfedges positions =

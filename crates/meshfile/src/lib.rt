@@ -2,284 +2,235 @@
 // anything is written: a file that is refused leaves the rows as they were.
 #![tactic(auto)]
 
-ghost use Rattle.std.specs.Prelude.{◌≡◌, ◌≤◌, min, drop};
-ghost use Rattle.rows.specs.Halfedges.{lent_halfedges, append_row};
-ghost use Rattle.rows.specs.Triples.{lent_triples, put_triple};
+ghost use Rattle.std.specs.Prelude.{◌≡◌, ℕ, ◌*◌, ◌/◌, ◌<◌, ◌≤◌, List, length};
+ghost use Rattle.digits.specs.Steps.{Got};
+ghost use Rattle.digits.specs.Told.{value_got};
+ghost use Rattle.rows.specs.Halfedges as H;
+ghost use Rattle.rows.specs.Halfedges.{append_row};
+ghost use Rattle.rows.specs.Triples.{put_triple};
 ghost use Rattle.meshfile.specs.Steps.{count_step, position_step, halfedge_step, header_of, lines_of, taken, body_of, found};
-ghost use Rattle.meshfile.specs.Told.{position_got, halfedge_got, header_told, outline, passed_told, checked_told, limited, Within, laid, reading, mesh_said, read_mesh};
-ghost use Rattle.digits.specs.Told.{count_got};
+ghost use Rattle.meshfile.specs.Told.{header_told, outline, passed_told, checked_told, Within, laid, reading, mesh_said, read_mesh};
 
-use digits::{Bits, Byte, Count, Number, Past};
-use rows::halfedges::Row;
-use rows::triples::Bits3;
+use rows::halfedges::{self, Row};
+use rows::triples::{self, Bits3};
+use std::cmp;
 
-// How many vertices and triangles a file may have: of half-edges, three times as many.
+// How many vertices and triangles a file has, or may have: of half-edges, three times as many.
 #[derive(Clone, Copy)]
-pub struct Limits {
+pub struct Size {
     pub vertices: usize,
     pub triangles: usize,
 }
 
-// A line's position and the place behind it.
+// Why a file is refused: it has more than it may have, or this is the first bad line.
 #[derive(Clone, Copy)]
-pub enum PositionLine {
-    Is(Bits3, usize),
-    Bad,
-}
-
-// A line's row and the place behind it.
-#[derive(Clone, Copy)]
-pub enum HalfedgeLine {
-    Is(Row, usize),
-    Bad,
-}
-
-// The counts of the three first lines and the place behind them, or the bad one.
-#[derive(Clone, Copy)]
-pub enum FirstLines {
-    Are(usize, usize, usize),
-    Bad(usize),
-}
-
-// The place behind some lines, or the bad one.
-#[derive(Clone, Copy)]
-pub enum Passed {
-    To(usize),
-    Bad(usize),
-}
-
-// A good file's counts, and the places of its first position and its first row.
-#[derive(Clone, Copy)]
-pub enum Checked {
-    Good(usize, usize, usize, usize),
+pub enum MeshError {
     TooLarge,
-    Bad(usize),
+    BadLine(usize),
 }
 
-// What `read` answers: vertices and triangles, or that there are too many, or the first bad line.
+// The number of a bad line.
 #[derive(Clone, Copy)]
-pub enum Mesh {
-    Read(usize, usize),
-    TooLarge,
-    Bad(usize),
+struct BadLine(usize);
+
+impl From<BadLine> for MeshError {
+    ghost use Rattle.meshfile.specs.declared.MeshError.TheVariants as E;
+
+    ghost from_gives = { λ line e. e ≡ E.BadLine line.0 };
+
+    fn from(line: BadLine) -> MeshError {
+        MeshError::BadLine(line.0)
+    }
+}
+
+// A good file's size, and where its positions and its rows begin.
+#[derive(Clone, Copy)]
+struct Checked<'a> {
+    size: Size,
+    positions: &'a [u8],
+    halfedges: &'a [u8],
 }
 
 const MOST_VERTICES: usize = 256;
 
 const MOST_TRIANGLES: usize = 256;
 
+// What stands on a line of its own and goes to a row of `width` numbers.
+trait Record: Copy {
+    type Cell: Copy;
+
+    ghost width: { ℕ };
+
+    ghost step: { List ℕ → Got Self };
+
+    ghost put: { ℕ → Self → List Self.Cell → List Self.Cell };
+
+    // Reads a line.
+    fn read(rest: &[u8]) -> Option<(Self, &[u8])>
+        ensures { value_got result ≡ step rest.now };
+
+    // Puts the record behind the rows in use.
+    fn append(self, rows: &mut [Self::Cell], used: usize)
+        requires { used < length rows.old / width }
+        ensures { rows.new ≡ put used self rows.old };
+}
+
+impl Record for Bits3 {
+    type Cell = u64;
+
+    ghost width = { 3 };
+
+    ghost step = { position_step };
+
+    ghost put = { put_triple };
+
+    #[tactic(auto, unfolding(crate::specs::Steps::position_step))]
+    fn read(rest: &[u8]) -> Option<(Bits3, &[u8])> {
+        let rest = digits::word(rest, b"p=")?;
+        let (x, rest) = digits::hex_then(rest, b',')?;
+        let (y, rest) = digits::hex_then(rest, b',')?;
+        let (z, rest) = digits::hex_then(rest, b'\n')?;
+        Some((Bits3 { x, y, z }, rest))
+    }
+
+    fn append(self, rows: &mut [u64], used: usize) {
+        triples::append_position(rows, used, self);
+    }
+}
+
+impl Record for Row {
+    type Cell = i32;
+
+    ghost width = { H.width };
+
+    ghost step = { halfedge_step };
+
+    ghost put = { append_row };
+
+    #[tactic(auto, unfolding(crate::specs::Steps::halfedge_step))]
+    fn read(rest: &[u8]) -> Option<(Row, &[u8])> {
+        let rest = digits::word(rest, b"h=")?;
+        let (start, rest) = digits::number_then(rest, b',')?;
+        let (end, rest) = digits::number_then(rest, b',')?;
+        let (pair, rest) = digits::number_then(rest, b',')?;
+        let (prop, rest) = digits::number_then(rest, b'\n')?;
+        Some((
+            Row {
+                start,
+                end,
+                pair,
+                prop,
+            },
+            rest,
+        ))
+    }
+
+    fn append(self, rows: &mut [i32], used: usize) {
+        halfedges::append(rows, used, self);
+    }
+}
+
 // A word, a count and the end of the line.
-fn count_line(text: &[u8], at: usize, word: &[u8]) -> Count
-    ensures { count_got text.now result ≡ count_step word.now (drop at text.now) }
+#[tactic(auto, unfolding(crate::specs::Steps::count_step))]
+fn count_line<'a>(rest: &'a [u8], word: &[u8]) -> Option<(usize, &'a [u8])>
+    ensures { value_got result ≡ count_step word.now rest.now }
 {
-    let Past::To(place) = digits::word(text, at, word) else {
-        return Count::Bad;
-    };
-    digits::count_then(text, place, b'\n')
-}
-
-fn position_line(text: &[u8], at: usize) -> PositionLine
-    ensures { position_got text.now result ≡ position_step (drop at text.now) }
-{
-    let Past::To(a) = digits::word(text, at, b"p=") else {
-        return PositionLine::Bad;
-    };
-    let Bits::Is(x, b) = digits::hex_then(text, a, b',') else {
-        return PositionLine::Bad;
-    };
-    let Bits::Is(y, c) = digits::hex_then(text, b, b',') else {
-        return PositionLine::Bad;
-    };
-    let Bits::Is(z, d) = digits::hex_then(text, c, b'\n') else {
-        return PositionLine::Bad;
-    };
-    PositionLine::Is(Bits3 { x: x, y: y, z: z }, d)
-}
-
-fn halfedge_line(text: &[u8], at: usize) -> HalfedgeLine
-    ensures { halfedge_got text.now result ≡ halfedge_step (drop at text.now) }
-{
-    let Past::To(a) = digits::word(text, at, b"h=") else {
-        return HalfedgeLine::Bad;
-    };
-    let Number::Is(begin, b) = digits::number_then(text, a, b',') else {
-        return HalfedgeLine::Bad;
-    };
-    let Number::Is(end, c) = digits::number_then(text, b, b',') else {
-        return HalfedgeLine::Bad;
-    };
-    let Number::Is(pair, d) = digits::number_then(text, c, b',') else {
-        return HalfedgeLine::Bad;
-    };
-    let Number::Is(prop, e) = digits::number_then(text, d, b'\n') else {
-        return HalfedgeLine::Bad;
-    };
-    HalfedgeLine::Is(
-        Row {
-            start: begin,
-            end: end,
-            pair: pair,
-            prop: prop,
-        },
-        e,
-    )
+    digits::count_then(digits::word(rest, word)?, b'\n')
 }
 
 // The three first lines.
-fn first_lines(text: &[u8]) -> FirstLines
-    ensures { header_told text.now result ≡ header_of text.now }
+#[tactic(auto, unfolding(crate::specs::Steps::header_of))]
+fn first_lines(text: &[u8]) -> Result<(Size, &[u8]), BadLine>
+    ensures { header_told result ≡ header_of text.now }
 {
-    let Past::To(second) = digits::word(text, 0, b"form=1\n") else {
-        return FirstLines::Bad(1);
-    };
-    let Count::Is(vertices, third) = count_line(text, second, b"verts=") else {
-        return FirstLines::Bad(2);
-    };
-    let Count::Is(triangles, next) = count_line(text, third, b"tris=") else {
-        return FirstLines::Bad(3);
-    };
-    FirstLines::Are(vertices, triangles, next)
+    let rest = digits::word(text, b"form=1\n").ok_or(BadLine(1))?;
+    let (vertices, rest) = count_line(rest, b"verts=").ok_or(BadLine(2))?;
+    let (triangles, rest) = count_line(rest, b"tris=").ok_or(BadLine(3))?;
+    Ok((
+        Size {
+            vertices,
+            triangles,
+        },
+        rest,
+    ))
 }
 
-// Passes n positions, of which the first stands on `line`.
-fn pass_positions(text: &[u8], at: usize, n: usize, line: usize) -> Passed
-    requires { (n ≤ 256) × (line ≤ 1024) }
-    ensures { passed_told text.now result ≡ outline (lines_of position_step n line (drop at text.now)) }
+// Passes n records, of which the first stands on `line`.
+fn pass<R: Record>(rest: &[u8], n: usize, line: usize) -> Result<&[u8], BadLine>
+    requires few { n ≤ 768 }
+    requires near { line ≤ 1024 }
+    ensures { passed_told result ≡ outline (lines_of R.step n line rest.now) }
 {
-    let mut place = at;
-    let mut i = 0;
-    while i < n {
-        match position_line(text, place) {
-            PositionLine::Is(_, next) => {
-                place = next;
-                i += 1;
-            }
-            PositionLine::Bad => {
-                return Passed::Bad(line + i);
-            }
-        }
+    let mut rest = rest;
+    for i in 0..n {
+        let Some((_, next)) = R::read(rest) else {
+            return Err(BadLine(line + i));
+        };
+        rest = next;
     }
-    Passed::To(place)
-}
-
-// Passes n rows, of which the first stands on `line`.
-fn pass_halfedges(text: &[u8], at: usize, n: usize, line: usize) -> Passed
-    requires { (n ≤ 768) × (line ≤ 1024) }
-    ensures { passed_told text.now result ≡ outline (lines_of halfedge_step n line (drop at text.now)) }
-{
-    let mut place = at;
-    let mut i = 0;
-    while i < n {
-        match halfedge_line(text, place) {
-            HalfedgeLine::Is(_, next) => {
-                place = next;
-                i += 1;
-            }
-            HalfedgeLine::Bad => {
-                return Passed::Bad(line + i);
-            }
-        }
-    }
-    Passed::To(place)
+    Ok(rest)
 }
 
 // Checks the positions and rows, and that nothing follows.
-fn check_body(text: &[u8], first: usize, vertices: usize, triangles: usize) -> Checked
-    requires { (vertices ≤ 256) × (triangles ≤ 256) }
-    ensures { (checked_told text.now result ≡ body_of vertices triangles (drop first text.now)) × Within (limited vertices triangles) result }
+fn check_body(rest: &[u8], size: Size) -> Result<Checked<'_>, MeshError>
+    requires vertices { size.vertices ≤ 256 }
+    requires triangles { size.triangles ≤ 256 }
+    ensures told { checked_told result ≡ body_of size.vertices size.triangles rest.now }
+    ensures within { Within size result }
 {
-    match pass_positions(text, first, vertices, 4) {
-        Passed::Bad(line) => Checked::Bad(line),
-        Passed::To(second) => match pass_halfedges(text, second, 3 * triangles, 4 + vertices) {
-            Passed::Bad(line) => Checked::Bad(line),
-            Passed::To(last) => match digits::byte_at(text, last) {
-                Byte::At(_, _) => Checked::Bad(4 + vertices + 3 * triangles),
-                Byte::End => Checked::Good(vertices, triangles, first, second),
-            },
-        },
+    let halfedges = pass::<Bits3>(rest, size.vertices, 4)?;
+    let end = pass::<Row>(halfedges, 3 * size.triangles, 4 + size.vertices)?;
+    if end.is_empty() {
+        Ok(Checked {
+            size,
+            positions: rest,
+            halfedges,
+        })
+    } else {
+        Err(MeshError::BadLine(4 + size.vertices + 3 * size.triangles))
     }
 }
 
 // Checks a whole file.
-fn check_file(text: &[u8], limits: Limits) -> Checked
-    requires { (limits.vertices ≤ 256) × (limits.triangles ≤ 256) }
-    ensures { (checked_told text.now result ≡ found limits text.now) × Within limits result }
+fn check_file(text: &[u8], limits: Size) -> Result<Checked<'_>, MeshError>
+    requires vertices { limits.vertices ≤ 256 }
+    requires triangles { limits.triangles ≤ 256 }
+    ensures told { checked_told result ≡ found limits text.now }
+    ensures within { Within limits result }
 {
-    match first_lines(text) {
-        FirstLines::Bad(line) => Checked::Bad(line),
-        FirstLines::Are(vertices, triangles, first) => {
-            if (limits.vertices < vertices) | (limits.triangles < triangles) {
-                return Checked::TooLarge;
-            }
-            check_body(text, first, vertices, triangles)
-        }
+    let (size, rest) = first_lines(text)?;
+    if (limits.vertices < size.vertices) | (limits.triangles < size.triangles) {
+        return Err(MeshError::TooLarge);
     }
+    check_body(rest, size)
 }
 
-// Writes n positions.
-fn fill_positions(text: &[u8], at: usize, n: usize, rows: &mut [u64])
-    requires { n ≤ lent_triples rows.old }
-    ensures { rows.new ≡ laid put_triple 0 (taken position_step n (drop at text.now)) rows.old }
+// Writes n records.
+fn fill<R: Record>(rest: &[u8], n: usize, rows: &mut [R::Cell])
+    requires { n ≤ length rows.old / R.width }
+    ensures { rows.new ≡ laid R.put 0 (taken R.step n rest.now) rows.old }
 {
-    let mut place = at;
-    let mut i = 0;
-    while i < n {
-        match position_line(text, place) {
-            PositionLine::Is(p, next) => {
-                rows::triples::append_position(rows, i, p);
-                place = next;
-                i += 1;
-            }
-            PositionLine::Bad => {
-                return;
-            }
-        }
+    let mut rest = rest;
+    for i in 0..n {
+        let Some((record, next)) = R::read(rest) else {
+            return;
+        };
+        record.append(rows, i);
+        rest = next;
     }
-}
-
-// Writes n rows.
-fn fill_halfedges(text: &[u8], at: usize, n: usize, rows: &mut [i32])
-    requires { n ≤ lent_halfedges rows.old }
-    ensures { rows.new ≡ laid append_row 0 (taken halfedge_step n (drop at text.now)) rows.old }
-{
-    let mut place = at;
-    let mut i = 0;
-    while i < n {
-        match halfedge_line(text, place) {
-            HalfedgeLine::Is(r, next) => {
-                rows::halfedges::append(rows, i, r);
-                place = next;
-                i += 1;
-            }
-            HalfedgeLine::Bad => {
-                return;
-            }
-        }
-    }
-}
-
-fn lesser(a: usize, b: usize) -> usize
-    ensures { result ≡ min a b }
-{
-    if a < b { a } else { b }
 }
 
 // The entry read: a file's positions and rows go to the front of the lent arrays. At most 256 vertices and 768 half-edges, and
 // no more than the arrays hold.
-pub fn read(text: &[u8], halfedges: &mut [i32], positions: &mut [u64]) -> Mesh
+pub fn read(text: &[u8], halfedges: &mut [i32], positions: &mut [u64]) -> Result<Size, MeshError>
     ensures { reading (mesh_said result) halfedges.new positions.new ≡ read_mesh text.now halfedges.old positions.old }
 {
-    let limits = Limits {
-        vertices: lesser(MOST_VERTICES, rows::triples::lent(positions)),
-        triangles: lesser(MOST_TRIANGLES, rows::halfedges::lent(halfedges) / 3),
+    let limits = Size {
+        vertices: cmp::min(MOST_VERTICES, triples::lent(positions)),
+        triangles: cmp::min(MOST_TRIANGLES, halfedges::lent(halfedges) / 3),
     };
-    match check_file(text, limits) {
-        Checked::Bad(line) => Mesh::Bad(line),
-        Checked::TooLarge => Mesh::TooLarge,
-        Checked::Good(vertices, triangles, first, second) => {
-            fill_positions(text, first, vertices, positions);
-            fill_halfedges(text, second, 3 * triangles, halfedges);
-            Mesh::Read(vertices, triangles)
-        }
-    }
+    let file = check_file(text, limits)?;
+    fill::<Bits3>(file.positions, file.size.vertices, positions);
+    fill::<Row>(file.halfedges, 3 * file.size.triangles, halfedges);
+    Ok(file.size)
 }

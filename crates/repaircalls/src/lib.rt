@@ -1,98 +1,80 @@
-// The exported functions that repair a net, called on stored calls: each reads the buffers that it is lent, prints what it says and the
-// buffers as they are left, and says the place behind them.
+// The exported functions that repair a net, called on stored calls: each reads the buffers that it is lent, and prints what it says and the
+// buffers as they are left.
 #![tactic(auto)]
 
-use calltext::{scan, show};
-use entrycalls::{print, show_spares};
-use repairtold::{CleanupTopologyAnswer, CollapseEdgeAnswer, DedupeEdgeAnswer, DedupeEdgesAnswer};
+use entrycalls::lent::{ANSWER, Asked, BUFFERS, Lent, Stored, print};
+use entrycalls::print_spares;
+use repairtold::{CleanupTopologyAnswer, DedupeEdgeAnswer, DedupeEdgesAnswer};
 use std::io;
 use told::Used;
 
-fn say_grown(
-    rt: &impl Print,
-    entry: &[u8],
+// An answer with a row and the counts in use.
+#[derive(Clone, Copy)]
+struct Grown {
     number: u32,
     row: usize,
     halfedges: usize,
     vertices: usize,
-) -> io::Result<()> {
-    let mut text = [0u8; 4096];
-    let n = answertext::grown(&mut text, 0, entry, number, row, halfedges, vertices);
-    print(rt, &text, n)
 }
 
-fn say_edge(rt: &impl Print, told: DedupeEdgeAnswer) -> io::Result<()> {
-    say_grown(
-        rt,
-        b"dedupe_edge",
-        told.number,
-        told.row,
-        told.halfedges,
-        told.vertices,
-    )
+impl From<DedupeEdgeAnswer> for Grown {
+    fn from(told: DedupeEdgeAnswer) -> Grown {
+        Grown {
+            number: told.number,
+            row: told.row,
+            halfedges: told.halfedges,
+            vertices: told.vertices,
+        }
+    }
 }
 
-fn say_edges(rt: &impl Print, told: DedupeEdgesAnswer) -> io::Result<()> {
-    say_grown(
-        rt,
-        b"dedupe_edges",
-        told.number,
-        told.row,
-        told.halfedges,
-        told.vertices,
-    )
+impl From<DedupeEdgesAnswer> for Grown {
+    fn from(told: DedupeEdgesAnswer) -> Grown {
+        Grown {
+            number: told.number,
+            row: told.row,
+            halfedges: told.halfedges,
+            vertices: told.vertices,
+        }
+    }
 }
 
-fn say_cleanup(rt: &impl Print, told: CleanupTopologyAnswer) -> io::Result<()> {
-    say_grown(
-        rt,
-        b"cleanup_topology",
-        told.number,
-        told.row,
-        told.halfedges,
-        told.vertices,
-    )
+impl From<CleanupTopologyAnswer> for Grown {
+    fn from(told: CleanupTopologyAnswer) -> Grown {
+        Grown {
+            number: told.number,
+            row: told.row,
+            halfedges: told.halfedges,
+            vertices: told.vertices,
+        }
+    }
 }
 
-fn say_collapse(rt: &impl Print, told: CollapseEdgeAnswer) -> io::Result<()> {
-    let mut text = [0u8; 4096];
-    let n = answertext::collapsed(
-        &mut text,
-        0,
-        b"collapse_edge",
-        told.number,
-        told.row,
-        told.vertices,
-        told.squared_length,
-        told.limit,
-    );
-    print(rt, &text, n)
+fn print_grown(rt: &impl Print, entry: &[u8], told: Grown) -> io::Result<()> {
+    print(rt, &mut [0u8; ANSWER], |page| {
+        answertext::grown(
+            page,
+            entry,
+            told.number,
+            told.row,
+            told.halfedges,
+            told.vertices,
+        )
+    })
 }
 
-fn show_buffers(rt: &impl Print, work: &[u32], list: &[u32]) -> io::Result<()> {
-    let mut text = [0u8; 65536];
-    let n = answertext::buffers(&mut text, 0, work, list);
-    print(rt, &text, n)
-}
-
-fn show_list(rt: &impl Print, list: &[u32]) -> io::Result<()> {
-    let mut text = [0u8; 65536];
-    let n = show::words(&mut text, 0, b"list", list);
-    print(rt, &text, n)
-}
-
-fn call_dedupe_edge(
+pub fn dedupe_edge(
     rt: &impl Print,
-    used: Used,
-    halfedges: &mut [i32],
-    positions: &mut [u64],
-    normals: &mut [u64],
-    references: &mut [i32],
-    properties: &[u64],
-    spare_halfedges: &mut [i32],
-    spare_positions: &mut [u64],
-    numbers: &[i32; 8],
+    stored: &mut Stored,
+    net: &mut Lent,
+    asked: &Asked,
 ) -> io::Result<()> {
+    let mut spare_halfedges = [0i32; 512];
+    let mut spare_positions = [0u64; 256];
+    let spare_halfedges = stored.list(&mut spare_halfedges);
+    let spare_positions = stored.list(&mut spare_positions);
+    let (used, halfedges, positions, normals, references, properties) = net.parts();
+    let [halfedge, ..] = asked.numbers;
     let told = station::spoonferret_dedupe_edge(
         used,
         halfedges,
@@ -102,59 +84,46 @@ fn call_dedupe_edge(
         properties,
         spare_halfedges,
         spare_positions,
-        numbers[0],
+        halfedge,
     );
-    say_edge(rt, told)?;
-    show_spares(rt, spare_halfedges, spare_positions)
+    print_grown(rt, b"dedupe_edge", Grown::from(told))?;
+    print_spares(rt, spare_halfedges, spare_positions)
 }
 
-pub fn dedupe_edge(
+// An entry that works on the whole net, with spares, a work buffer and a list.
+fn repair<A, F>(
     rt: &impl Print,
-    file: &[u8],
-    at: usize,
-    used: Used,
-    halfedges: &mut [i32],
-    positions: &mut [u64],
-    normals: &mut [u64],
-    references: &mut [i32],
-    properties: &[u64],
-    numbers: &[i32; 8],
-) -> io::Result<usize> {
+    stored: &mut Stored,
+    net: &mut Lent,
+    entry: &[u8],
+    call: F,
+) -> io::Result<()>
+where
+    A: Into<Grown>,
+    F: FnOnce(
+        Used,
+        &mut [i32],
+        &mut [u64],
+        &mut [u64],
+        &mut [i32],
+        &[u64],
+        &mut [i32],
+        &mut [u64],
+        &mut [u32],
+        &mut [u32],
+    ) -> A,
+    requires { F.IsAlwaysCallable call }
+{
     let mut spare_halfedges = [0i32; 512];
     let mut spare_positions = [0u64; 256];
-    let s = scan::signed_list(file, at, &mut spare_halfedges);
-    let p = scan::list(file, s.next, &mut spare_positions);
-    let s_end = s.length;
-    let p_end = p.length;
-    call_dedupe_edge(
-        rt,
-        used,
-        halfedges,
-        positions,
-        normals,
-        references,
-        properties,
-        &mut spare_halfedges[..s_end],
-        &mut spare_positions[..p_end],
-        numbers,
-    )?;
-    Ok(p.next)
-}
-
-fn call_dedupe_edges(
-    rt: &impl Print,
-    used: Used,
-    halfedges: &mut [i32],
-    positions: &mut [u64],
-    normals: &mut [u64],
-    references: &mut [i32],
-    properties: &[u64],
-    spare_halfedges: &mut [i32],
-    spare_positions: &mut [u64],
-    work: &mut [u32],
-    list: &mut [u32],
-) -> io::Result<()> {
-    let told = station::spoonferret_dedupe_edges(
+    let mut work = [0u32; 512];
+    let mut list = [0u32; 512];
+    let spare_halfedges = stored.list(&mut spare_halfedges);
+    let spare_positions = stored.list(&mut spare_positions);
+    let work = stored.list(&mut work);
+    let list = stored.list(&mut list);
+    let (used, halfedges, positions, normals, references, properties) = net.parts();
+    let told = call(
         used,
         halfedges,
         positions,
@@ -166,133 +135,48 @@ fn call_dedupe_edges(
         work,
         list,
     );
-    say_edges(rt, told)?;
-    show_spares(rt, spare_halfedges, spare_positions)?;
-    show_buffers(rt, work, list)
+    print_grown(rt, entry, told.into())?;
+    print_spares(rt, spare_halfedges, spare_positions)?;
+    print(rt, &mut [0u8; BUFFERS], |page| {
+        answertext::buffers(page, work, b"list", list)
+    })
 }
 
-pub fn dedupe_edges(
+pub fn dedupe_edges(rt: &impl Print, stored: &mut Stored, net: &mut Lent) -> io::Result<()> {
+    repair(
+        rt,
+        stored,
+        net,
+        b"dedupe_edges",
+        station::spoonferret_dedupe_edges,
+    )
+}
+
+pub fn cleanup_topology(rt: &impl Print, stored: &mut Stored, net: &mut Lent) -> io::Result<()> {
+    repair(
+        rt,
+        stored,
+        net,
+        b"cleanup_topology",
+        station::spoonferret_cleanup_topology,
+    )
+}
+
+pub fn collapse_edge(
     rt: &impl Print,
-    file: &[u8],
-    at: usize,
-    used: Used,
-    halfedges: &mut [i32],
-    positions: &mut [u64],
-    normals: &mut [u64],
-    references: &mut [i32],
-    properties: &[u64],
-) -> io::Result<usize> {
+    stored: &mut Stored,
+    net: &mut Lent,
+    asked: &Asked,
+) -> io::Result<()> {
     let mut spare_halfedges = [0i32; 512];
     let mut spare_positions = [0u64; 256];
-    let mut work = [0u32; 512];
     let mut list = [0u32; 512];
-    let s = scan::signed_list(file, at, &mut spare_halfedges);
-    let p = scan::list(file, s.next, &mut spare_positions);
-    let w = scan::words(file, p.next, &mut work);
-    let l = scan::words(file, w.next, &mut list);
-    let s_end = s.length;
-    let p_end = p.length;
-    let w_end = w.length;
-    let l_end = l.length;
-    call_dedupe_edges(
-        rt,
-        used,
-        halfedges,
-        positions,
-        normals,
-        references,
-        properties,
-        &mut spare_halfedges[..s_end],
-        &mut spare_positions[..p_end],
-        &mut work[..w_end],
-        &mut list[..l_end],
-    )?;
-    Ok(l.next)
-}
-
-fn call_cleanup_topology(
-    rt: &impl Print,
-    used: Used,
-    halfedges: &mut [i32],
-    positions: &mut [u64],
-    normals: &mut [u64],
-    references: &mut [i32],
-    properties: &[u64],
-    spare_halfedges: &mut [i32],
-    spare_positions: &mut [u64],
-    work: &mut [u32],
-    list: &mut [u32],
-) -> io::Result<()> {
-    let told = station::spoonferret_cleanup_topology(
-        used,
-        halfedges,
-        positions,
-        normals,
-        references,
-        properties,
-        spare_halfedges,
-        spare_positions,
-        work,
-        list,
-    );
-    say_cleanup(rt, told)?;
-    show_spares(rt, spare_halfedges, spare_positions)?;
-    show_buffers(rt, work, list)
-}
-
-pub fn cleanup_topology(
-    rt: &impl Print,
-    file: &[u8],
-    at: usize,
-    used: Used,
-    halfedges: &mut [i32],
-    positions: &mut [u64],
-    normals: &mut [u64],
-    references: &mut [i32],
-    properties: &[u64],
-) -> io::Result<usize> {
-    let mut spare_halfedges = [0i32; 512];
-    let mut spare_positions = [0u64; 256];
-    let mut work = [0u32; 512];
-    let mut list = [0u32; 512];
-    let s = scan::signed_list(file, at, &mut spare_halfedges);
-    let p = scan::list(file, s.next, &mut spare_positions);
-    let w = scan::words(file, p.next, &mut work);
-    let l = scan::words(file, w.next, &mut list);
-    let s_end = s.length;
-    let p_end = p.length;
-    let w_end = w.length;
-    let l_end = l.length;
-    call_cleanup_topology(
-        rt,
-        used,
-        halfedges,
-        positions,
-        normals,
-        references,
-        properties,
-        &mut spare_halfedges[..s_end],
-        &mut spare_positions[..p_end],
-        &mut work[..w_end],
-        &mut list[..l_end],
-    )?;
-    Ok(l.next)
-}
-
-fn call_collapse_edge(
-    rt: &impl Print,
-    used: Used,
-    halfedges: &mut [i32],
-    positions: &mut [u64],
-    normals: &[u64],
-    references: &[i32],
-    properties: &[u64],
-    spare_halfedges: &mut [i32],
-    spare_positions: &mut [u64],
-    list: &mut [u32],
-    numbers: &[i32; 8],
-    asked: &[u64; 12],
-) -> io::Result<()> {
+    let spare_halfedges = stored.list(&mut spare_halfedges);
+    let spare_positions = stored.list(&mut spare_positions);
+    let list = stored.list(&mut list);
+    let (used, halfedges, positions, normals, references, properties) = net.parts();
+    let [halfedge, first_new_vert, ..] = asked.numbers;
+    let [tol, epsilon, ..] = asked.floats;
     let told = station::spoonferret_collapse_edge(
         used,
         halfedges,
@@ -303,51 +187,22 @@ fn call_collapse_edge(
         spare_halfedges,
         spare_positions,
         list,
-        numbers[0],
-        numbers[1],
-        floats::float_of(asked[0]),
-        floats::float_of(asked[1]),
+        halfedge,
+        first_new_vert,
+        floats::float_of(tol),
+        floats::float_of(epsilon),
     );
-    say_collapse(rt, told)?;
-    show_spares(rt, spare_halfedges, spare_positions)?;
-    show_list(rt, list)
-}
-
-pub fn collapse_edge(
-    rt: &impl Print,
-    file: &[u8],
-    at: usize,
-    used: Used,
-    halfedges: &mut [i32],
-    positions: &mut [u64],
-    normals: &[u64],
-    references: &[i32],
-    properties: &[u64],
-    numbers: &[i32; 8],
-    asked: &[u64; 12],
-) -> io::Result<usize> {
-    let mut spare_halfedges = [0i32; 512];
-    let mut spare_positions = [0u64; 256];
-    let mut list = [0u32; 512];
-    let s = scan::signed_list(file, at, &mut spare_halfedges);
-    let p = scan::list(file, s.next, &mut spare_positions);
-    let l = scan::words(file, p.next, &mut list);
-    let s_end = s.length;
-    let p_end = p.length;
-    let l_end = l.length;
-    call_collapse_edge(
-        rt,
-        used,
-        halfedges,
-        positions,
-        normals,
-        references,
-        properties,
-        &mut spare_halfedges[..s_end],
-        &mut spare_positions[..p_end],
-        &mut list[..l_end],
-        numbers,
-        asked,
-    )?;
-    Ok(l.next)
+    print(rt, &mut [0u8; ANSWER], |page| {
+        answertext::collapsed(
+            page,
+            b"collapse_edge",
+            told.number,
+            told.row,
+            told.vertices,
+            told.squared_length,
+            told.limit,
+        )
+    })?;
+    print_spares(rt, spare_halfedges, spare_positions)?;
+    print(rt, &mut [0u8; BUFFERS], |page| page.list(b"list", list))
 }

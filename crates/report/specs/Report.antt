@@ -44,6 +44,13 @@ unfoldable pub commas : List ℕ → List ℕ
 commas [] = []
 commas (n ∷ l) = decimal n ++ behind_commas l
 
+-- of a split that was done, with the vertices of each step
+unfoldable pub done_text : ℕ → List ℕ → ℤ → List ℕ
+done_text added visited euler =
+    line answer_word (decimal 0)
+    ++ (line added_word (decimal added)
+    ++ (line steps_word (decimal (length visited)) ++ (line visit_word (commas visited) ++ line euler_word (signed euler))))
+
 unfoldable pub text_of : Outcome → List ℕ → ℤ → List ℕ
 text_of (O.Done added steps) visit euler =
     line answer_word (decimal 0)

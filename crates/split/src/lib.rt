@@ -9,7 +9,8 @@ ghost use Rattle.splitting.specs.Split.{split_outcome, split_sound, split_pinche
 ghost use Rattle.splitcleared.specs.Answer.{split_said};
 
 use net::Counts;
-use splitcleared::Split;
+use refused::Refusal;
+use splitting::Visited;
 
 // A net with nothing that calls for answer 1, 2 or 3.
 pub fn split_sound(
@@ -19,8 +20,11 @@ pub fn split_sound(
     visit: &mut [u32],
     halfedges: usize,
     vertices: usize,
-) -> Split
-    requires { SoundRows halfedges vertices rows.old × ((halfedges + vertices ≤ length work.old) × ((halfedges ≤ length visit.old) × (vertices ≤ vertex_capacity_over positions.old))) }
+) -> Result<Visited, Refusal>
+    requires sound { SoundRows halfedges vertices rows.old }
+    requires work_long { halfedges + vertices ≤ length work.old }
+    requires visit_long { halfedges ≤ length visit.old }
+    requires vertices_fit { vertices ≤ vertex_capacity_over positions.old }
     ensures { split_outcome (split_said result) rows.new positions.new work.new visit.new
         ≡ split_sound halfedges vertices rows.old positions.old work.old visit.old }
 {
@@ -40,29 +44,27 @@ pub fn split_pinched_verts(
     properties: &[u64],
     work: &mut [u32],
     visit: &mut [u32],
-) -> Split
+) -> Result<Visited, Refusal>
     ensures { split_outcome (split_said result) halfedges.new positions.new work.new visit.new
         ≡ split_pinched counts (net halfedges.old positions.old normals.now references.now properties.now) work.old visit.old }
 {
     if !net::shaped(
         counts, halfedges, positions, normals, references, properties,
     ) {
-        return Split::Shape;
+        return Err(Refusal::Shape);
     }
     if !(net::long_enough(work.len(), counts.halfedges + counts.vertices)
         & net::long_enough(visit.len(), counts.halfedges))
     {
-        return Split::ShortBuffer;
+        return Err(Refusal::ShortBuffer);
     }
-    match soundness::first_out(halfedges, counts.halfedges, counts.vertices) {
-        Some(h) => Split::Unsound(h),
-        None => split_sound(
-            halfedges,
-            positions,
-            work,
-            visit,
-            counts.halfedges,
-            counts.vertices,
-        ),
-    }
+    soundness::check_rows(halfedges, counts.halfedges, counts.vertices)?;
+    split_sound(
+        halfedges,
+        positions,
+        work,
+        visit,
+        counts.halfedges,
+        counts.vertices,
+    )
 }

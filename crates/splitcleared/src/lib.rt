@@ -10,20 +10,8 @@ ghost use Rattle.splitting.specs.inner.Needs.{SoundRows};
 ghost use Rattle.splitting.specs.Split.{split_outcome, split_sound};
 ghost use Rattle.splitcleared.specs.Answer.{split_said};
 
-use numbers::Halfedge;
-use orderpass::Ordered;
-
-// What split_pinched_verts answers: vertices added and half-edges visited; or a shape that does not fit, a buffer too short, the
-// least row that is not in order, a fan that does not close, no room for a copy.
-#[derive(Clone, Copy)]
-pub enum Split {
-    Done(usize, usize),
-    Shape,
-    ShortBuffer,
-    Unsound(Halfedge),
-    OpenFan,
-    NoRoom,
-}
+use refused::Refusal;
+use splitting::Visited;
 
 // Over a cleared work buffer: the fans are put into the order, and where the copies find room all is written, the list alone where there
 // are none; else the free vertex rows are zeroed. That a fan does not close cannot come here: every fan of a sound net closes.
@@ -34,25 +22,28 @@ pub fn split_cleared(
     visit: &mut [u32],
     halfedges: usize,
     vertices: usize,
-) -> Split
-    requires { SoundRows halfedges vertices rows.old × ((halfedges + vertices ≤ length work.old) × ((halfedges ≤ length visit.old) × ((vertices ≤ vertex_capacity_over positions.old)
-        × (cleared (halfedges + vertices) work.old ≡ work.old)))) }
-    ensures { (split_outcome (split_said result) rows.new positions.new work.old visit.new
-        ≡ split_sound halfedges vertices rows.old positions.old work.old visit.old)
-        × (drop (halfedges + vertices) work.new ≡ drop (halfedges + vertices) work.old) }
+) -> Result<Visited, Refusal>
+    requires sound { SoundRows halfedges vertices rows.old }
+    requires work_long { halfedges + vertices ≤ length work.old }
+    requires visit_long { halfedges ≤ length visit.old }
+    requires vertices_fit { vertices ≤ vertex_capacity_over positions.old }
+    requires clear { cleared (halfedges + vertices) work.old ≡ work.old }
+    ensures outcome { split_outcome (split_said result) rows.new positions.new work.old visit.new
+        ≡ split_sound halfedges vertices rows.old positions.old work.old visit.old }
+    ensures behind { drop (halfedges + vertices) work.new ≡ drop (halfedges + vertices) work.old }
 {
-    let Ordered::To(copies, steps) = orderpass::order_rows(rows, work, halfedges, vertices) else {
-        return Split::OpenFan;
-    };
+    let counted = orderpass::order_rows(rows, work, halfedges, vertices).ok_or(Refusal::OpenFan)?;
     let capacity = net::vertex_capacity(positions);
-    if copies > capacity - vertices {
+    if counted.added > capacity - vertices {
         rows::triples::zero(positions, vertices, capacity);
-        return Split::NoRoom;
+        return Err(Refusal::NoRoom);
     }
-    if copies == 0 {
-        writepass::list_order(work, visit, steps);
-        return Split::Done(0, steps);
+    let nothing_copied = counted.added == 0;
+    if nothing_copied {
+        writepass::list_order(work, visit, counted.steps);
+        return Ok(counted);
     }
+    let steps = counted.steps;
     let added = writepass::write_order(rows, positions, work, visit, halfedges, vertices, steps);
-    Split::Done(added, steps)
+    Ok(Visited { added, steps })
 }

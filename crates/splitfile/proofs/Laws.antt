@@ -24,17 +24,18 @@ use Rattle.splitting.specs.Split.{SplitOutcome, split_outcome, buffers_long, spl
 use Rattle.splitting.specs.Told.{SplitDone, IsFull}
 use Rattle.splitting.proofs.Told.{split_in_words}
 use Rattle.split.proofs.Entry.{said_shape, said_short, said_unsound, sound_here, work_long, visit_long}
-use Rattle.meshfile.specs.declared.Mesh.{Mesh}
-use Rattle.meshfile.specs.declared.Mesh.TheVariants as M
+use Rattle.std.specs.Prelude.{Result, Ok, Err}
+use Rattle.meshfile.specs.declared.Size.{Size}
+use Rattle.meshfile.specs.declared.MeshError.{MeshError}
+use Rattle.meshfile.specs.declared.MeshError.TheVariants as E
 use Rattle.meshfile.specs.Steps.{Found, holding, too_large, first_bad, found}
 use Rattle.meshfile.specs.Told.{limits_of, laid, reading, mesh_said, read_mesh}
 use Rattle.meshfile.proofs.Told.{found_exactly, read_agree}
 use Rattle.report.specs.declared.Outcome.{Outcome}
-use Rattle.report.specs.declared.Outcome.TheVariants as O
 use Rattle.texts.specs.Appended.{Appended}
 use Rattle.texts.proofs.Appends.{appended_is}
 use Rattle.report.specs.Report.{euler, text_of, Listed}
-use Rattle.splitfile.specs.Printed.{outcome_of, vertices_after, no_halfedges, no_positions, counts, lent, no_work, no_visit, split_with, text_after, report_of, printed}
+use Rattle.splitfile.specs.Printed.{outcome_of, refused, vertices_after, no_halfedges, no_positions, counts, lent, no_work, no_visit, split_with, text_after, report_of, printed}
 
 -- what `report` asks of an outcome
 pub record Fits (vertices : ℕ) (o : Outcome) (visit : List ℕ) : Type 0 where
@@ -94,38 +95,37 @@ module _ (vertices triangles : ℕ) (rows : List ℤ) (positions : List ℕ) {ro
   text_here k r = rw (← e, r, q)
 
 -- ---- the reader
-abbrev Small : Mesh → Type 0
-Small (M.Read vertices triangles) = (vertices ≤ 256) × (triangles ≤ 256)
-Small M.TooLarge = Unit {0}
-Small (M.Bad line) = Unit {0}
+abbrev Small : Result Size MeshError → Type 0
+Small (Ok size) = (size.vertices ≤ 256) × (size.triangles ≤ 256)
+Small (Err e) = Unit {0}
 
 -- the report on what the reader answers and leaves
-abbrev text_read : Mesh → List ℤ → List ℕ → List ℕ
-text_read (M.Read vertices triangles) halfedges positions = text_after vertices triangles (split_with vertices triangles halfedges positions)
-text_read M.TooLarge halfedges positions = text_of (O.Refused 1) [] (pos 0)
-text_read (M.Bad line) halfedges positions = text_of (O.BadFile line) [] (pos 0)
+abbrev text_read : Result Size MeshError → List ℤ → List ℕ → List ℕ
+text_read (Ok size) halfedges positions = text_after size.vertices size.triangles (split_with size.vertices size.triangles halfedges positions)
+text_read (Err e) halfedges positions = text_of (refused e) [] (pos 0)
 
-pub read_told : (file : List ℕ) {m a : Mesh} {halfedges : List ℤ} {positions : List ℕ} → a ≡ m
+pub read_told : (file : List ℕ) {m a : Result Size MeshError} {halfedges : List ℤ} {positions : List ℕ} → a ≡ m
     → reading (mesh_said a) halfedges positions ≡ read_mesh file no_halfedges no_positions → Small m × (text_read m halfedges positions ≡ report_of file)
 unfolding report_of
 read_told file {m} {a} {halfedges} {positions} is r = go _ refl
   where
     go : (f : Found) → found (limits_of no_halfedges no_positions) file ≡ f → Small m × (text_read m halfedges positions ≡ report_of file)
     go (holding v t ps hs) e =
-        let k = read_agree file no_halfedges no_positions m (M.Read v t) halfedges (laid append_row 0 hs no_halfedges) positions (laid put_triple 0 ps no_positions) (rw is at r) (rw e) in
+        let k = read_agree file no_halfedges no_positions m (Ok (record { vertices = v; triangles = t })) halfedges (laid append_row 0 hs no_halfedges) positions (laid put_triple 0 ps no_positions) (rw is at r) (rw e) in
         let few = ((found_exactly file no_halfedges no_positions (holding v t ps hs)).0 e).few in
         rw (e, k.0, k.1, k.2) ((omega (arith, few.vertices_few), omega (arith, few.triangles_few)), refl)
-    go too_large e = rw (e, (read_agree file no_halfedges no_positions m M.TooLarge halfedges no_halfedges positions no_positions (rw is at r) (rw e)).0) (tt, refl)
-    go (first_bad line) e = rw (e, (read_agree file no_halfedges no_positions m (M.Bad line) halfedges no_halfedges positions no_positions (rw is at r) (rw e)).0) (tt, refl)
+    go too_large e = rw (e, (read_agree file no_halfedges no_positions m (Err E.TooLarge) halfedges no_halfedges positions no_positions (rw is at r) (rw e)).0) (tt, refl)
+    go (first_bad line) e = rw (e, (read_agree file no_halfedges no_positions m (Err (E.BadLine line)) halfedges no_halfedges positions no_positions (rw is at r) (rw e)).0) (tt, refl)
 
 -- a refusal's text needs neither visits nor an euler number
-pub refused_text : (answer : ℕ) (visit : List ℕ) (z : ℤ) → text_of (O.Refused answer) visit z ≡ text_of (O.Refused answer) [] (pos 0)
-unfolding text_of
-refused_text answer visit z = refl
+pub refused_listed : (e : MeshError) (visit : List ℕ) → Listed (refused e) visit
+refused_listed E.TooLarge visit = tt
+refused_listed (E.BadLine line) visit = tt
 
-pub bad_text : (line : ℕ) (visit : List ℕ) (z : ℤ) → text_of (O.BadFile line) visit z ≡ text_of (O.BadFile line) [] (pos 0)
+pub refused_text : (e : MeshError) (visit : List ℕ) (z : ℤ) → text_of (refused e) visit z ≡ text_of (refused e) [] (pos 0)
 unfolding text_of
-bad_text line visit z = refl
+refused_text E.TooLarge visit z = refl
+refused_text (E.BadLine line) visit z = refl
 
 -- ---- the buffer
 pub put_front : {before after bytes text : List ℕ} {r : ℕ} → Appended before 0 bytes after r → bytes ≡ text → (r, after) ≡ printed text before

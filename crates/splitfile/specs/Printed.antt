@@ -7,6 +7,8 @@ use Rattle.rows.specs.Triples.{put_triple}
 use Rattle.net.specs.declared.Counts.{Counts}
 use Rattle.net.specs.Net.{Net, net}
 use Rattle.splitting.specs.Split.{SplitOutcome, split_pinched}
+use Rattle.meshfile.specs.declared.MeshError.{MeshError}
+use Rattle.meshfile.specs.declared.MeshError.TheVariants as E
 use Rattle.meshfile.specs.Steps.{Found, holding, too_large, first_bad, found}
 use Rattle.meshfile.specs.Told.{limits_of, laid}
 use Rattle.report.specs.declared.Outcome.{Outcome}
@@ -19,6 +21,11 @@ outcome_of s =
     cond (eqb s.number 0)
     (O.Done (counted (value s.values 0)) (counted (value s.values 1)))
     (cond (eqb s.number 3) (O.Unsound (counted (value s.values 0))) (O.Refused s.number))
+
+-- what is reported of a file that is refused
+abbrev pub refused : MeshError → Outcome
+refused E.TooLarge = O.Refused 1
+refused (E.BadLine line) = O.BadFile line
 
 -- vertex rows after the split
 abbrev pub vertices_after : ℕ → Outcome → ℕ

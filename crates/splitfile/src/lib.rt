@@ -7,11 +7,11 @@ ghost use Rattle.std.specs.Prelude.{◌≡◌, ◌*◌, ◌≤◌, length};
 ghost use Rattle.rows.specs.Halfedges.{lent_halfedges};
 ghost use Rattle.splitcleared.specs.Answer.{split_said};
 ghost use Rattle.texts.specs.Appended.{Appended};
-ghost use Rattle.splitfile.specs.Printed.{outcome_of, vertices_after, split_with, text_after, report_of, printed};
+ghost use Rattle.splitfile.specs.Printed.{outcome_of, refused, vertices_after, split_with, text_after, report_of, printed};
 
-use meshfile::Mesh;
+use meshfile::{MeshError, Size};
 use net::Counts;
-use report::Outcome;
+use report::{Mesh, Outcome};
 use rows::halfedges::WIDTH;
 use splitcleared::Split;
 
@@ -29,6 +29,16 @@ fn outcome_of(answer: Split) -> Outcome
     }
 }
 
+// What is reported of a file that is refused.
+fn refused(error: MeshError) -> Outcome
+    ensures { result ≡ refused error }
+{
+    match error {
+        MeshError::TooLarge => Outcome::Refused(1),
+        MeshError::BadLine(line) => Outcome::BadFile(line),
+    }
+}
+
 // Vertex rows after the split.
 fn vertices_after(vertices: usize, outcome: Outcome) -> usize
     requires { vertices_after vertices outcome ≤ 1000000 }
@@ -36,22 +46,18 @@ fn vertices_after(vertices: usize, outcome: Outcome) -> usize
 {
     match outcome {
         Outcome::Done(added, _) => vertices + added,
-        Outcome::Refused(_) => vertices,
-        Outcome::Unsound(_) => vertices,
-        Outcome::BadFile(_) => vertices,
+        Outcome::Refused(_) | Outcome::Unsound(_) | Outcome::BadFile(_) => vertices,
     }
 }
 
 // Splits the net that was read, over 256 vertex rows, and puts the report.
-fn split_net(
-    out: &mut [u8],
-    halfedges: &mut [i32],
-    positions: &mut [u64],
-    vertices: usize,
-    triangles: usize,
-) -> usize
-    requires { (20000 ≤ length out.old) × ((vertices ≤ 256) × ((triangles ≤ 256) × (3 * triangles ≤ lent_halfedges halfedges.old))) }
-    ensures { Appended out.old 0 (text_after vertices triangles (split_with vertices triangles halfedges.old positions.old)) out.new result × (result ≤ 20000) }
+fn split_net(out: &mut [u8], halfedges: &mut [i32], positions: &mut [u64], size: Size) -> usize
+    requires room { 20000 ≤ length out.old }
+    requires vertices { size.vertices ≤ 256 }
+    requires triangles { size.triangles ≤ 256 }
+    requires rows { 3 * size.triangles ≤ lent_halfedges halfedges.old }
+    ensures appended { Appended out.old 0 (text_after size.vertices size.triangles (split_with size.vertices size.triangles halfedges.old positions.old)) out.new result }
+    ensures within { result ≤ 20000 }
 {
     let mut work = [0u32; 1024];
     let mut visit = [0u32; 768];
@@ -59,8 +65,8 @@ fn split_net(
     let references = [0i32; 1];
     let properties = [0u64; 1];
     let counts = Counts {
-        halfedges: 3 * triangles,
-        vertices: vertices,
+        halfedges: 3 * size.triangles,
+        vertices: size.vertices,
         normals: 0,
         references: 0,
         properties: 0,
@@ -77,14 +83,12 @@ fn split_net(
         &mut visit,
     );
     let outcome = outcome_of(answer);
-    report::report(
-        out,
-        outcome,
-        &visit,
-        vertices_after(vertices, outcome),
-        triangles,
-        halfedges,
-    )
+    let mesh = Mesh {
+        vertices: vertices_after(size.vertices, outcome),
+        triangles: size.triangles,
+        rows: halfedges,
+    };
+    report::report(out, outcome, &visit, &mesh)
 }
 
 // Reads a file, splits it and puts the report at the front of the buffer; how many bytes that has.
@@ -93,17 +97,13 @@ pub fn split_file(text: &[u8], out: &mut [u8; 20000]) -> usize
 {
     let mut halfedges = [0i32; 768 * WIDTH];
     let mut positions = [0u64; 768];
-    let visit = [0u32; 1];
-    let rows = [0i32; 1];
+    let nothing = Mesh {
+        vertices: 0,
+        triangles: 0,
+        rows: &[],
+    };
     match meshfile::read(text, &mut halfedges, &mut positions) {
-        Mesh::Bad(line) => report::report(out, Outcome::BadFile(line), &visit, 0, 0, &rows),
-        Mesh::TooLarge => report::report(out, Outcome::Refused(1), &visit, 0, 0, &rows),
-        Mesh::Read(vertices, triangles) => split_net(
-            out,
-            &mut halfedges,
-            &mut positions,
-            vertices,
-            triangles,
-        ),
+        Err(error) => report::report(out, refused(error), &[], &nothing),
+        Ok(size) => split_net(out, &mut halfedges, &mut positions, size),
     }
 }

@@ -1,11 +1,12 @@
--- Bytes put behind one another, and the loop that puts them.
+-- Bytes put behind one another.
 use mathlib.Core.Path.{◌≡◌, refl, sym, ap, ◌∙◌}
 use mathlib.Core.List.{List, [], ◌++◌, append_assoc, append-nil}
-use Prim.Native.Nat.{ℕ, ◌+◌, ◌≤◌, ◌<◌}
+use Prim.Native.Nat.{ℕ, ◌+◌, ◌≤◌}
 use native.Mathlib.Omega.{arith}
-use native.Mathlib.Numerals.{add-one}
-use lib.ListN.{length, take, drop, get_or, set, length-append, length-set, take-append-drop}
-use lib.Seq.{paste, paste-zero, paste-suc, take-paste, drop-paste, take_all}
+use lib.ListN.{length, take, drop, length-append, length-drop, take-append-drop}
+use lib.Seq.{length-take-le}
+use borrow.Rule.Slice.PartMut.{put_mid}
+use Rattle.std.proofs.lemmas.Slice.{take-put_mid, drop-put_mid}
 use Rattle.laws.proofs.Stretches.{drop_more}
 use Rattle.texts.specs.Appended.{Appended}
 
@@ -31,28 +32,17 @@ appended_agree {a} {b} {c} {u} {v} {w} {x} p q =
     let e : v ≡ w = p.count ∙ sym q.count in
     (e, appended_is p ∙ ap (λ (k : ℕ). (take u a ++ x) ++ drop k a) e ∙ sym (appended_is q))
 
--- the loop that puts bytes: the first i of s behind the bytes of d that are in use
-pub record Pasting (s d₀ : List ℕ) (used : ℕ) (d : List ℕ) (i : ℕ) : Type 0 where
-  pub upto : i ≤ length s
-  pub kept : length d ≡ length d₀
-  pub is : d ≡ paste d₀ used s i
+-- a slice written over the bytes behind those in use
+pub appended_mid : (a : List ℕ) (u k : ℕ) (x y : List ℕ) → y ≡ x → k ≡ length x → u + length x ≤ length a → Appended a u x (put_mid u k a y) (u + length x)
+appended_mid a u k x y e q h =
+    let long : length y ≡ k = omega (arith, ap length e) in
+    record {
+      count = refl;
+      text = take-put_mid u k a y (u + length x) (omega arith) (omega arith) ∙ ap (λ (l : List ℕ). take u a ++ l) e;
+      rest = drop-put_mid u k a y (u + length x) (omega arith) (omega arith) long;
+    }
 
-pub pasting_begins : (s d : List ℕ) (used : ℕ) → Pasting s d used d 0
-pasting_begins s d used = record { upto = omega arith; kept = refl; is = paste-zero d used s }
-
-pub pasting_on : {s d₀ : List ℕ} {used : ℕ} {d : List ℕ} {i : ℕ} → Pasting s d₀ used d i → i < length s → used + length s ≤ length d₀ → Pasting s d₀ used (set d (used + i) (get_or s i 0)) (i + 1)
-pasting_on {s} {d₀} {used} {d} {i} f l h = record {
-  upto = omega arith;
-  kept = length-set d (used + i) (get_or s i 0) ∙ f.kept;
-  is = ap (λ (x : List ℕ). set x (used + i) (get_or s i 0)) f.is ∙ paste-suc d₀ used s i 0 (omega arith) l ∙ ap (paste d₀ used s) (sym (add-one i));
-}
-
-pub pasting_done : {s d₀ : List ℕ} {used : ℕ} {d : List ℕ} {i : ℕ} → Pasting s d₀ used d i → length s ≤ i → used + length s ≤ length d₀ → Appended d₀ used s d (used + i)
-pasting_done {s} {d₀} {used} {d} {i} f l h = record {
-  count = omega (arith, f.upto);
-  text =
-      ap (take (used + i)) f.is
-      ∙ take-paste d₀ used s i (omega arith) f.upto
-      ∙ ap (λ (x : List ℕ). take used d₀ ++ x) (take_all i s l);
-  rest = ap (drop (used + i)) f.is ∙ drop-paste d₀ used s i (omega arith) f.upto;
-}
+-- the buffer is as long as it was
+pub appended_length : {a b : List ℕ} {u v : ℕ} {x : List ℕ} → Appended a u x b v → u + length x ≤ length a → length b ≡ length a
+appended_length {a} {b} {u} {v} {x} p h =
+    omega (arith, p.count, ap length (appended_is p), length-append (take u a ++ x) (drop v a), length-append (take u a) x, length-take-le u a (omega arith), length-drop v a)

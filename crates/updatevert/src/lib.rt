@@ -5,7 +5,6 @@ ghost use Rattle.std.specs.Prelude.{◌≡◌, ◌<◌, ◌^◌};
 ghost use Rattle.numbers.specs.Numbers.{halfedge_number, vertex_number, names};
 ghost use Rattle.net.specs.Net.{net};
 ghost use Rattle.steps.specs.Steps.{InUse};
-ghost use Rattle.walks.specs.Walk.{reaches};
 ghost use Rattle.updatevert.specs.UpdateVert.{update_at, update_named, update_vert, update_said};
 
 use net::Counts;

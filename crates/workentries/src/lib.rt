@@ -26,7 +26,8 @@ pub fn see(work: &mut [u32], h: usize)
 
 // Puts x at place k of the order.
 pub fn place(work: &mut [u32], k: usize, x: usize)
-    requires { (k < length work.old) × (x < entry_limit) }
+    requires inside { k < length work.old }
+    requires small { x < entry_limit }
     ensures { work.new ≡ place k x work.old }
 {
     let old = work[k];
@@ -38,8 +39,7 @@ pub fn is_walked(work: &[u32], h: Halfedge) -> bool
     requires { halfedge_number h < length work.now }
     ensures { result ≡ is_walked work.now (halfedge_number h) }
 {
-    let i = h.number();
-    work[i] >= WALKED
+    work[h.number()] >= WALKED
 }
 
 // What stands at place k of the order.
@@ -55,16 +55,15 @@ pub fn last_entry(first: bool, c: usize) -> usize
     requires { c < copy_bit }
     ensures { result ≡ last_entry first c }
 {
-    if first {
-        return c;
-    }
-    c + COPY
+    if first { c } else { c + COPY }
 }
 
 // Marks v. Whether this is the first fan there.
 pub fn mark_vertex(work: &mut [u32], halfedges: usize, v: Vertex) -> bool
-    requires { (halfedges + vertex_number v < length work.old) × (halfedges + vertex_number v < 2 ^ 31) }
-    ensures { (work.new ≡ set work.old (halfedges + vertex_number v) 1) × (result ≡ eqb (get_or work.old (halfedges + vertex_number v) 0) 0) }
+    requires inside { halfedges + vertex_number v < length work.old }
+    requires small { halfedges + vertex_number v < 2 ^ 31 }
+    ensures marked { work.new ≡ set work.old (halfedges + vertex_number v) 1 }
+    ensures first { result ≡ eqb (get_or work.old (halfedges + vertex_number v) 0) 0 }
 {
     let m = halfedges + v.number();
     let first = work[m] == 0;

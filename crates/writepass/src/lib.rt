@@ -50,23 +50,20 @@ pub fn write_order(
     ensures { written rows.new positions.new visit.new result ≡ write_order halfedges vertices work.now steps (written rows.old positions.old visit.old 0) }
 {
     let mut added = 0;
-    let mut k = 0;
-    while k < steps {
+    for k in 0..steps {
         let x = workentries::entry_at(work, k);
         added = write_entry(rows, positions, visit, halfedges, vertices, k, x, added);
-        k += 1;
     }
     added
 }
 
 // The order listed by itself: what is written where nothing is copied.
 pub fn list_order(work: &[u32], visit: &mut [u32], steps: usize)
-    requires { (steps ≤ length work.now) × (steps ≤ length visit.old) }
+    requires read { steps ≤ length work.now }
+    requires room { steps ≤ length visit.old }
     ensures { visit.new ≡ list_order work.now steps visit.old }
 {
-    let mut k = 0;
-    while k < steps {
+    for k in 0..steps {
         visit[k] = (workentries::entry_at(work, k) % COPY) as u32;
-        k += 1;
     }
 }

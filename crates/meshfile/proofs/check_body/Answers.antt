@@ -1,27 +1,27 @@
 -- `meshfile::check_body` meets its contract: the positions, the rows, and the end.
-use mathlib.Core.Path.{◌≡◌}
-use native.Mathlib.Nat.{le_refl}
-use lib.ListN.{drop}
-use Rattle.digits.proofs.Turns.{cons, none}
-use Rattle.meshfile.specs.Steps.{position_step, lines_of, bad_line, body_of}
-use Rattle.meshfile.proofs.Turns.{lines_passed, lines_stopped}
+use Rattle.std.proofs.Common.{rules}
+use mathlib.Core.Path.{◌∙◌}
+use Rattle.std.proofs.lemmas.List.{nil_from_length}
+use Rattle.meshfile.specs.Steps.{body_of}
+use Rattle.meshfile.proofs.Turns.{lines_passed, lines_stopped, told_bad, at_more}
 use Rattle.meshfile.proofs.check_body.Goals as goal
 
-pub returns-in-Bad : goal.returns-in-Bad
+pub returns-in_err-halfedges-clause-told : goal.returns-in_err-halfedges-clause-told
 unfolding body_of
-returns-in-Bad c =
-    let text = c.args.text.now in
-    let stopped : lines_of position_step c.args.vertices 4 (drop c.args.first text) ≡ bad_line c.in-Bad.line = lines_stopped _ _ _ _ _ (rw c.in-Bad.is at c.pass_positions.ensures) in
-    (rw stopped, tt)
+returns-in_err-halfedges-clause-told c = told_bad _ _ c.from_residual.ensures.1 ∙ rw (lines_stopped _ _ _ _ _ c.in_err-halfedges.ensures)
 
-pub returns-in-Bad-pass_halfedges : goal.returns-in-Bad-pass_halfedges
+pub returns-in_err-end-clause-told : goal.returns-in_err-end-clause-told
 unfolding body_of
-returns-in-Bad-pass_halfedges c = (rw (lines_passed _ _ _ _ _ (rw c.in-To.is at c.pass_positions.ensures), lines_stopped _ _ _ _ _ (rw c.in-Bad-pass_halfedges.is at c.pass_halfedges.ensures)), tt)
+returns-in_err-end-clause-told c =
+    told_bad _ _ c.from_residual-in_err-end.ensures.1
+    ∙ rw (lines_passed _ _ _ _ _ c.in_ok-halfedges.ensures, lines_stopped _ _ _ _ _ c.in_err-end.ensures)
 
-pub returns-in-At : goal.returns-in-At
+pub returns-then-is_empty-clause-told : goal.returns-then-is_empty-clause-told
 unfolding body_of
-returns-in-At c = (rw (lines_passed _ _ _ _ _ (rw c.in-To.is at c.pass_positions.ensures), lines_passed _ _ _ _ _ (rw c.in-To-pass_halfedges.is at c.pass_halfedges.ensures), cons (drop c.in-To-pass_halfedges.last c.args.text.now) _ _ (rw c.in-At.is at c.byte_at.ensures.0)), tt)
+returns-then-is_empty-clause-told c =
+    let none = nil_from_length c.in_ok-end.end.now (search rules) in
+    rw (lines_passed _ _ _ _ _ c.in_ok-halfedges.ensures, lines_passed _ _ _ _ _ c.in_ok-end.ensures, none)
 
-pub returns-in-End : goal.returns-in-End
+pub returns-else-is_empty-clause-told : goal.returns-else-is_empty-clause-told
 unfolding body_of
-returns-in-End c = (rw (lines_passed _ _ _ _ _ (rw c.in-To.is at c.pass_positions.ensures), lines_passed _ _ _ _ _ (rw c.in-To-pass_halfedges.is at c.pass_halfedges.ensures), none (drop c.in-To-pass_halfedges.last c.args.text.now) (rw c.in-End.is at c.byte_at.ensures.0)), (le_refl _, le_refl _))
+returns-else-is_empty-clause-told c = rw (lines_passed _ _ _ _ _ c.in_ok-halfedges.ensures, lines_passed _ _ _ _ _ c.in_ok-end.ensures) (at_more _ _ _ c.if-is_empty.ensures)

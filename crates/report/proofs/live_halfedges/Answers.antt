@@ -1,26 +1,16 @@
--- `report::live_halfedges` meets its contract: as many as there are so far.
-use mathlib.Core.Path.{◌≡◌}
-use native.Mathlib.Omega.{arith}
-use Rattle.report.proofs.Texts.{live_on, live_none}
+-- `report::live_halfedges` meets its contract: those of the numbers below n that name a live half-edge.
+use mathlib.Core.Path.{◌∙◌}
+use Rattle.std.proofs.Common.{arith, rules, tests}
+use Rattle.std.proofs.lemmas.Iterator.{YieldsList-from_range}
+use Rattle.std.proofs.lemmas.Iterator.Consumers.{count_from_yields_List, YieldsList-from_filter}
+use Rattle.rows.specs.Halfedges.{is_paired}
+use Rattle.report.proofs.Texts.{live_are}
 use Rattle.report.proofs.live_halfedges.Goals as goal
 
-pub loop-i-init : goal.loop-i-init
-loop-i-init c = (omega arith, live_none _, omega arith)
-
-pub is_live-requires : goal.is_live-requires
-is_live-requires c = omega arith
-
-pub overflow_add-live : goal.overflow_add-live
-overflow_add-live c = omega arith
-
-pub overflow_add-i : goal.overflow_add-i
-overflow_add-i c = omega arith
-
-pub loop-i-smaller : goal.loop-i-smaller
-loop-i-smaller c = omega arith
-
-pub loop-i-preserved : goal.loop-i-preserved
-loop-i-preserved c = (omega arith, rw (c.one-live.ensures.0, c.is_live.ensures, c.loop-i.invariant.1) (live_on _ _), omega (arith, c.one-live.ensures.1))
-
 pub returns : goal.returns
-returns c = let q : c.loop-i.i ≡ c.args.n = omega arith in (rw (← q) c.loop-i.invariant.1, omega arith)
+returns c =
+    let rows = c.args.rows.now in
+    let n = c.args.n in
+    count_from_yields_List c.filter.result _ c.count.ensures.ran
+    (YieldsList-from_filter _ (is_paired rows) (YieldsList-from_range 0 _ n c.filter.ensures.source (omega arith)) c.filter.ensures.closure (λ x b q k. search (rules, tests)))
+    ∙ live_are rows n

@@ -1,18 +1,13 @@
 -- `report::put_next` meets its contract: piece by piece.
-use native.Mathlib.Omega.{arith}
-use Prim.Native.Nat.{◌≤◌}
-use lib.ListN.{length}
 use Rattle.digits.specs.Written.{decimal}
-use Rattle.texts.proofs.Appends.{appended_on}
-use Rattle.texts.proofs.Numbers.{decimal_few}
+use Rattle.texts.proofs.Rooms.{room_first, room_on, grows_on}
 use Rattle.report.proofs.put_next.Goals as goal
 
+pub put_bytes-requires : goal.put_bytes-requires
+put_bytes-requires c = room_first _ (decimal c.args.n) c.requires
+
 pub put_number-requires : goal.put_number-requires
-put_number-requires c =
-    let few : length (decimal c.args.n) ≤ 20 = decimal_few _ (omega arith) in
-    omega (arith, c.put_bytes-a.ensures.count)
+put_number-requires c = room_on _ _ c.requires c.put_bytes.ensures
 
 pub returns : goal.returns
-returns c =
-    let few : length (decimal c.args.n) ≤ 20 = decimal_few _ (omega arith) in
-    (appended_on c.put_bytes-a.ensures c.put_number.ensures, omega (arith, c.put_bytes-a.ensures.count, c.put_number.ensures.count))
+returns c = grows_on c.put_bytes.ensures c.put_number.ensures

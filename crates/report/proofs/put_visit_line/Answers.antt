@@ -1,10 +1,15 @@
 -- `report::put_visit_line` meets its contract: piece by piece.
-use native.Mathlib.Omega.{arith}
-use Rattle.texts.proofs.Appends.{appended_on}
+use Rattle.texts.proofs.Rooms.{room_first, room_on, grows_on}
 use Rattle.report.proofs.put_visit_line.Goals as goal
 
+pub put_bytes-requires : goal.put_bytes-requires
+put_bytes-requires c = room_first _ _ c.requires
+
+pub put_visit-requires : goal.put_visit-requires
+put_visit-requires c = room_first _ _ (room_on _ _ c.requires c.put_bytes.ensures)
+
+pub put_bytes-requires-2 : goal.put_bytes-requires-2
+put_bytes-requires-2 c = room_on _ _ (room_on _ _ c.requires c.put_bytes.ensures) c.put_visit.ensures
+
 pub returns : goal.returns
-returns c = (
-  appended_on c.put_bytes-a.ensures (appended_on c.put_visit-b.ensures.0 c.put_bytes.ensures),
-  omega (arith, c.put_bytes-a.ensures.count, c.put_bytes.ensures.count),
-)
+returns c = grows_on c.put_bytes.ensures (grows_on c.put_visit.ensures c.put_bytes-2.ensures)

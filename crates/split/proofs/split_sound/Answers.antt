@@ -14,7 +14,13 @@ split_cleared-said-requires c =
     let p = c.requires in
     let n = a.halfedges + a.vertices in
     let e = c.fill.ensures in
-    (p.0, (rw (e, length_filled 0 0 n a.work.now (omega arith) p.1.0) p.1.0, (p.1.1.0, (p.1.1.1, ap (cleared n) e ∙ filled_again 0 n a.work.now _ _ refl refl ∙ sym e))))
+    record {
+      sound = p.sound;
+      work_long = rw (e, length_filled 0 0 n a.work.now (omega arith) p.work_long) p.work_long;
+      visit_long = p.visit_long;
+      vertices_fit = p.vertices_fit;
+      clear = ap (cleared n) e ∙ filled_again 0 n a.work.now _ _ refl refl ∙ sym e;
+    }
 
 pub returns : goal.returns
 returns c =
@@ -22,5 +28,5 @@ returns c =
     let n = a.halfedges + a.vertices in
     let e = c.fill.ensures in
     let s = c.split_cleared-said.ensures in
-    with_work _ _ _ _ _ _ _ (filled_again 0 n a.work.now _ _ (s.1 ∙ ap (drop n) e) c.fill-2.ensures ∙ sym e) s.0
+    with_work _ _ _ _ _ _ _ (filled_again 0 n a.work.now _ _ (s.behind ∙ ap (drop n) e) c.fill-2.ensures ∙ sym e) s.outcome
     ∙ sound_same a.halfedges a.vertices a.rows.now a.positions.now _ a.work.now a.visit.now (ap (cleared n) e ∙ filled_again 0 n a.work.now _ _ refl refl)

@@ -7,12 +7,24 @@ use Rattle.splitfile.proofs.split_net.Goals as goal
 
 pub vertices_after-requires : goal.vertices_after-requires
 unfolding split_with
-vertices_after-requires c = (fits_here c.args.vertices c.args.triangles c.args.halfedges.now c.args.positions.now c.split_pinched_verts-answer.ensures c.outcome_of-outcome.ensures c.requires.1.0 c.requires.1.1.0).vertices_few
+vertices_after-requires c =
+    (fits_here c.args.size.vertices c.args.size.triangles c.args.halfedges.now c.args.positions.now c.split_pinched_verts-answer.ensures c.outcome_of-outcome.ensures c.requires.vertices c.requires.triangles).vertices_few
 
-pub report-requires : goal.report-requires
+pub invariant_of-mesh : goal.invariant_of-mesh
 unfolding split_with
-report-requires c = let f = fits_here c.args.vertices c.args.triangles c.args.halfedges.now c.args.positions.now c.split_pinched_verts-answer.ensures c.outcome_of-outcome.ensures c.requires.1.0 c.requires.1.1.0 in (c.requires.0, (f.listed, (rw c.vertices_after.ensures f.vertices_few, (omega arith, omega (arith, c.split_pinched_verts-answer.auto.halfedges, c.requires.1.1.1)))))
+invariant_of-mesh c =
+    let f = fits_here c.args.size.vertices c.args.size.triangles c.args.halfedges.now c.args.positions.now c.split_pinched_verts-answer.ensures c.outcome_of-outcome.ensures c.requires.vertices c.requires.triangles in
+    record {
+      vertices_few = rw c.vertices_after.ensures f.vertices_few;
+      triangles_few = omega arith;
+      rows_lent = omega (arith, c.split_pinched_verts-answer.auto.halfedges, c.requires.rows);
+    }
 
-pub returns : goal.returns
+pub report-requires-clause-listed : goal.report-requires-clause-listed
 unfolding split_with
-returns c = (appended_as c.report.ensures.0 (text_here c.args.vertices c.args.triangles c.args.halfedges.now c.args.positions.now c.split_pinched_verts-answer.ensures c.outcome_of-outcome.ensures _ c.vertices_after.ensures), c.report.ensures.1)
+report-requires-clause-listed c =
+    (fits_here c.args.size.vertices c.args.size.triangles c.args.halfedges.now c.args.positions.now c.split_pinched_verts-answer.ensures c.outcome_of-outcome.ensures c.requires.vertices c.requires.triangles).listed
+
+pub returns-clause-appended : goal.returns-clause-appended
+unfolding split_with
+returns-clause-appended c = appended_as c.report.ensures.appended (text_here c.args.size.vertices c.args.size.triangles c.args.halfedges.now c.args.positions.now c.split_pinched_verts-answer.ensures c.outcome_of-outcome.ensures _ c.vertices_after.ensures)

@@ -1,12 +1,7 @@
 -- `writepass::list_order` meets its contract: what is listed is the order up to where the loop stands.
 use mathlib.Core.Path.{◌≡◌}
-use Prim.Native.Nat.{◌-◌, ◌≤◌}
-use lib.ListN.{length}
 use Rattle.ordering.specs.inner.Order.{list_order}
 use Rattle.writepass.proofs.list_order.Given as goal
 
 abbrev pub invariant-loop-k : goal.invariant-loop-k
-invariant-loop-k l = (l.k ≤ l.steps) × (l.visit ≡ list_order l.work l.k l.initial.visit) × (length l.visit ≡ length l.initial.visit)
-
-abbrev pub decreases-loop-k : goal.decreases-loop-k
-decreases-loop-k l = l.steps - l.k
+invariant-loop-k l = l.visit ≡ list_order l.work l.k l.initial.visit

@@ -3,42 +3,19 @@ use mathlib.Core.Path.{sym, ap, ◌∙◌, subst}
 use native.Mathlib.Omega.{arith}
 use Rattle.ordering.specs.inner.Order.{written, write_entry}
 use Rattle.ordering.specs.inner.Needs.{EntryNeeds}
-use Rattle.ordering.proofs.Passes.{writing_begins, writing_needs, writing_on, writing_done}
+use Rattle.ordering.proofs.Passes.{writing_begins, writing_needs, writing_on}
 use Rattle.writepass.proofs.write_order.Goals as goal
 
 pub loop-k-init : goal.loop-k-init
 loop-k-init c = writing_begins c.requires
 
-pub entry_at-x-requires : goal.entry_at-x-requires
-entry_at-x-requires c = omega (arith, c.loop-k-test.true, c.requires.work_long)
-
 pub write_entry-added-requires : goal.write_entry-added-requires
-write_entry-added-requires c = subst (λ x. EntryNeeds c.args.halfedges c.args.vertices c.loop-k.rows c.loop-k.positions c.loop-k.visit c.loop-k.k x c.loop-k.added) (sym c.entry_at-x.ensures) (writing_needs c.requires c.loop-k.invariant c.loop-k-test.true)
-
-pub overflow_add-k : goal.overflow_add-k
-overflow_add-k c = omega (arith, c.loop-k-test.true)
-
-pub loop-k-smaller : goal.loop-k-smaller
-loop-k-smaller c = omega (arith, c.loop-k-test.true)
+write_entry-added-requires c =
+    subst (λ x. EntryNeeds c.args.halfedges c.args.vertices c.loop-k.rows c.loop-k.positions c.loop-k.visit c.loop-k.k x c.loop-k.added) (sym c.entry_at-x.ensures)
+    (writing_needs c.requires c.loop-k.invariant (omega arith))
 
 pub loop-k-preserved : goal.loop-k-preserved
 loop-k-preserved c =
-    let pre = c.requires in
-    let args = c.args in
-    let loop = c.loop-k in
-    let at_loop_test = c.loop-k-test in
-    let at_entry_at = c.entry_at-x in
-    let at_write_entry = c.write_entry-added in
-    writing_on pre loop.invariant at_loop_test.true _ _ _ _ (at_write_entry.ensures ∙ ap (λ x. write_entry args.halfedges args.vertices loop.k x (written loop.rows loop.positions loop.visit loop.added)) at_entry_at.ensures)
-
-pub shape_of-rows : goal.shape_of-rows
-shape_of-rows c = c.loop-k.invariant.held.rows_len
-
-pub shape_of-positions : goal.shape_of-positions
-shape_of-positions c = c.loop-k.invariant.held.positions_len
-
-pub shape_of-visit : goal.shape_of-visit
-shape_of-visit c = c.loop-k.invariant.held.visit_len
-
-pub returns : goal.returns
-returns c = writing_done c.requires c.loop-k.invariant (omega arith)
+    writing_on c.requires c.loop-k.invariant (omega arith) _ _ _ _
+    (c.write_entry-added.ensures
+    ∙ ap (λ x. write_entry c.args.halfedges c.args.vertices c.loop-k.k x (written c.loop-k.rows c.loop-k.positions c.loop-k.visit c.loop-k.added)) c.entry_at-x.ensures)

@@ -1,17 +1,12 @@
 -- `calltext::scan::list` meets its contract: whoever puts the numbers that are left has put all of them.
-use Rattle.std.proofs.Common.{refl, ◌∙◌, arith, length-set}
-use Rattle.calltext.specs.Scan.{count_of}
-use Rattle.calltext.proofs.Scans.{fill_on, fill_begins, fill_done}
+use Rattle.std.proofs.Common.{◌∙◌, arith, length-set}
+use Rattle.calltext.proofs.Scans.{fill_on, fill_done}
 use Rattle.calltext.proofs.scan.list.Goals as goal
 
-pub loop-k-init : goal.loop-k-init
-loop-k-init c = (refl, omega arith, fill_begins count_of _ _ _ _)
+pub loop-element-preserved : goal.loop-element-preserved
+loop-element-preserved g c =
+    (simp length-set c.loop-element.invariant.0, rw (c.of.ensures, c.number-scanned.ensures) (fill_on g.T.Readable.read_as _ _ _ _ _ (omega (arith, c.loop-element-test.true, c.loop-element.auto.element-items, c.loop-element.invariant.0)) ∙ c.loop-element.invariant.1))
 
-pub bounds-into-k : goal.bounds-into-k
-bounds-into-k c = omega (arith, c.room-n.ensures.1)
-
-pub loop-k-preserved : goal.loop-k-preserved
-loop-k-preserved c = (simp length-set c.loop-k.invariant.0, omega arith, rw c.number-s.ensures (fill_on count_of _ _ _ _ _ c.loop-k-test.true ∙ c.loop-k.invariant.2))
-
-pub returns : goal.returns
-returns c = (fill_done count_of _ _ _ _ _ _ _ _ c.number-count.ensures c.room-n.ensures.0 c.loop-k-test.false c.loop-k.invariant.2, omega (arith, c.room-n.ensures.1, c.loop-k.invariant.0))
+pub returns-clause-filled : goal.returns-clause-filled
+returns-clause-filled g c =
+    fill_done g.T.Readable.read_as _ _ _ _ _ _ _ _ c.number-count.ensures c.min-length.ensures (omega (arith, c.loop-element-test.false, c.loop-element.auto.element-items, c.loop-element.invariant.0)) c.loop-element.invariant.1

@@ -1,6 +1,0 @@
--- `answertext::answer` meets its contract: part by part.
-use Rattle.texts.proofs.Puts.{puts_then}
-use Rattle.answertext.proofs.answer.Goals as goal
-
-pub returns : goal.returns
-returns c = puts_then _ _ _ _ _ c.number-a.ensures c.end.ensures

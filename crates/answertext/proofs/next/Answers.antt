@@ -1,7 +1,0 @@
--- `answertext::next` meets its contract: part by part.
-use mir.Facts.{to_z-of_z}
-use Rattle.texts.proofs.Puts.{puts_then}
-use Rattle.answertext.proofs.next.Goals as goal
-
-pub returns : goal.returns
-returns c = puts_then _ _ _ _ _ c.number-a.ensures (puts_then _ _ _ _ _ (rw (to_z-of_z c.ranges.next) at c.signed-b.ensures) c.end.ensures)
