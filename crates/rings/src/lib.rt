@@ -50,10 +50,8 @@ pub fn find(rows: &[i32], list: &[u32], halfedges: usize, len: usize, h: Halfedg
     requires { (halfedge_number h < halfedges) × (InUse halfedges rows.now × ((len ≤ length list.now) × AllIn halfedges list.now)) }
     ensures { hit result ≡ find rows.now (end_of rows.now (halfedge_number h)) list.now 0 len }
 {
-    for k in 0..len {
-        if edgetests::same_end(rows, h, entry(list, k)) {
-            return Some(k);
-        }
-    }
-    None
+    list[..len].iter().position(|&g| {
+        let listed = numbers::halfedge_counted(g as usize);
+        edgetests::same_end(rows, h, listed)
+    })
 }
