@@ -7,13 +7,25 @@ ghost use Rattle.numbers.specs.Next.{next};
 ghost use Rattle.numbers.specs.Numbers.{halfedge_number};
 ghost use Rattle.rows.specs.Halfedges.{lent_halfedges};
 ghost use Rattle.steps.specs.Steps.{middle, InUse, VerticesIn};
-ghost use Rattle.folds.specs.Folds.{fold_rows, beyond, lose, lose_folded, has_pair, outer_paired, join, gone_row, clear, take_out, fold_at, fold};
+ghost use Rattle.folds.specs.Folds.{beyond, lose, lose_folded, has_pair, outer_paired, join, gone_row, clear, take_out, fold_at, fold};
+ghost use Rattle.folds.specs.Triangles.{rows_of, RowsIn};
 
 use numbers::Halfedge;
 use rows::triples::Bits3;
 use steps::Run;
 
 const NAN: u64 = 0x7FF8_0000_0000_0000;
+
+// The rows of the two triangles.
+#[derive(Clone, Copy)]
+struct Folded {
+    e: Halfedge,
+    e1: Halfedge,
+    e2: Halfedge,
+    f: Halfedge,
+    f1: Halfedge,
+    f2: Halfedge,
+}
 
 // Where the start of h names no vertex in use: nothing where it is below 0; the steps stop where it is beyond.
 fn beyond(rows: &[i32], run: Run, h: Halfedge) -> Run
@@ -51,10 +63,7 @@ fn is_pair(rows: &[i32], halfedges: usize, h: Halfedge, p: Halfedge) -> bool
     requires { (halfedge_number h < halfedges) × InUse halfedges rows.now }
     ensures { result ≡ has_pair halfedges rows.now (halfedge_number h) (halfedge_number p) }
 {
-    match rows::halfedges::pair_of(rows, h, halfedges) {
-        Some(q) => q == p,
-        None => false,
-    }
+    rows::halfedges::pair_of(rows, h, halfedges) == Some(p)
 }
 
 // The step that loses what a fold loses: three starts where the triangles meet twice, else one.
@@ -64,23 +73,20 @@ fn lose_folded(
     run: Run,
     first: bool,
     second: bool,
-    e: Halfedge,
-    e1: Halfedge,
-    e2: Halfedge,
-    f1: Halfedge,
+    t: Folded,
 ) -> Run
-    requires { ((halfedge_number e < lent_halfedges rows.now) × ((halfedge_number e1 < lent_halfedges rows.now) × ((halfedge_number e2 < lent_halfedges rows.now) × (halfedge_number f1 < lent_halfedges rows.now)))) × VerticesIn run.vertices positions.old }
-    ensures { (middle rows.now positions.new result ≡ lose_folded first second (halfedge_number e) (halfedge_number e1) (halfedge_number e2) (halfedge_number f1) (middle rows.now positions.old run)) × (result.vertices ≡ run.vertices) }
+    requires { RowsIn (lent_halfedges rows.now) (rows_of t) × VerticesIn run.vertices positions.old }
+    ensures { (middle rows.now positions.new result ≡ lose_folded first second (rows_of t).e (rows_of t).e1 (rows_of t).e2 (rows_of t).f1 (middle rows.now positions.old run)) × (result.vertices ≡ run.vertices) }
 {
     if !first {
-        return lose_step(rows, positions, run, f1);
+        return lose_step(rows, positions, run, t.f1);
     }
     if !second {
-        return lose_step(rows, positions, run, e1);
+        return lose_step(rows, positions, run, t.e1);
     }
-    let once = lose_step(rows, positions, run, e);
-    let twice = lose_step(rows, positions, once, e1);
-    lose_step(rows, positions, twice, e2)
+    let once = lose_step(rows, positions, run, t.e);
+    let twice = lose_step(rows, positions, once, t.e1);
+    lose_step(rows, positions, twice, t.e2)
 }
 
 // a and d are paired, and b and c.
@@ -93,31 +99,23 @@ fn join_rows(rows: &mut [i32], halfedges: usize, a: Halfedge, b: Halfedge, c: Ha
 }
 
 // The step that pairs the outer partners: of e1 and f2, and of e2 and f1. It stops where one of them isn't there.
-fn join_step(
-    rows: &mut [i32],
-    halfedges: usize,
-    run: Run,
-    e1: Halfedge,
-    e2: Halfedge,
-    f1: Halfedge,
-    f2: Halfedge,
-) -> Run
-    requires { ((halfedge_number e1 < halfedges) × ((halfedge_number e2 < halfedges) × ((halfedge_number f1 < halfedges) × (halfedge_number f2 < halfedges)))) × InUse halfedges rows.old }
-    ensures { ((p : List ℕ) → middle rows.new p result ≡ join halfedges (halfedge_number e1) (halfedge_number e2) (halfedge_number f1) (halfedge_number f2) (middle rows.old p run)) × (result.vertices ≡ run.vertices) }
+fn join_step(rows: &mut [i32], halfedges: usize, run: Run, t: Folded) -> Run
+    requires { RowsIn halfedges (rows_of t) × InUse halfedges rows.old }
+    ensures { ((p : List ℕ) → middle rows.new p result ≡ join halfedges (rows_of t).e1 (rows_of t).e2 (rows_of t).f1 (rows_of t).f2 (middle rows.old p run)) × (result.vertices ≡ run.vertices) }
 {
     if steps::refused(run) {
         return run;
     }
-    let Some(a) = rows::halfedges::pair_of(rows, e1, halfedges) else {
+    let Some(a) = rows::halfedges::pair_of(rows, t.e1, halfedges) else {
         return steps::stopped(run);
     };
-    let Some(b) = rows::halfedges::pair_of(rows, e2, halfedges) else {
+    let Some(b) = rows::halfedges::pair_of(rows, t.e2, halfedges) else {
         return steps::stopped(run);
     };
-    let Some(c) = rows::halfedges::pair_of(rows, f1, halfedges) else {
+    let Some(c) = rows::halfedges::pair_of(rows, t.f1, halfedges) else {
         return steps::stopped(run);
     };
-    let Some(d) = rows::halfedges::pair_of(rows, f2, halfedges) else {
+    let Some(d) = rows::halfedges::pair_of(rows, t.f2, halfedges) else {
         return steps::stopped(run);
     };
     join_rows(rows, halfedges, a, b, c, d);
@@ -155,20 +153,15 @@ fn take_out(
     run: Run,
     first: bool,
     second: bool,
-    e: Halfedge,
-    e1: Halfedge,
-    e2: Halfedge,
-    f: Halfedge,
-    f1: Halfedge,
-    f2: Halfedge,
+    t: Folded,
 ) -> Run
-    requires { ((halfedge_number e < halfedges) × ((halfedge_number e1 < halfedges) × ((halfedge_number e2 < halfedges) × ((halfedge_number f < halfedges) × ((halfedge_number f1 < halfedges) × (halfedge_number f2 < halfedges)))))) × (InUse halfedges rows.old × VerticesIn run.vertices positions.old) }
-    ensures { (middle rows.new positions.new result ≡ take_out halfedges first second (fold_rows (halfedge_number e) (halfedge_number e1) (halfedge_number e2) (halfedge_number f) (halfedge_number f1) (halfedge_number f2)) (middle rows.old positions.old run)) × (result.vertices ≡ run.vertices) }
+    requires { RowsIn halfedges (rows_of t) × (InUse halfedges rows.old × VerticesIn run.vertices positions.old) }
+    ensures { (middle rows.new positions.new result ≡ take_out halfedges first second (rows_of t) (middle rows.old positions.old run)) × (result.vertices ≡ run.vertices) }
 {
-    let lost = lose_folded(rows, positions, run, first, second, e, e1, e2, f1);
-    let joined = join_step(rows, halfedges, lost, e1, e2, f1, f2);
-    let cleared = clear_step(rows, joined, e, e1, e2);
-    clear_step(rows, cleared, f, f1, f2)
+    let lost = lose_folded(rows, positions, run, first, second, t);
+    let joined = join_step(rows, halfedges, lost, t);
+    let cleared = clear_step(rows, joined, t.e, t.e1, t.e2);
+    clear_step(rows, cleared, t.f, t.f1, t.f2)
 }
 
 // Takes the two triangles out where they have folded: they have the same opposite vertex and meet again.
@@ -192,9 +185,15 @@ fn fold_at(
     if !(edgetests::same_end(rows, e1, f1) & (first | second)) {
         return run;
     }
-    take_out(
-        rows, positions, halfedges, run, first, second, e, e1, e2, f, f1, f2,
-    )
+    let t = Folded {
+        e,
+        e1,
+        e2,
+        f,
+        f1,
+        f2,
+    };
+    take_out(rows, positions, halfedges, run, first, second, t)
 }
 
 // The step of remove_if_folded: nothing at an edge without pair, or where its second row's pair is −1.

@@ -1,6 +1,6 @@
 -- Forming a loop: the step of form_loop on a net in the middle of an operation, as a row of steps.
 use Rattle.std.specs.Prelude.{cond, ℕ, ◌+◌, leb}
-use Rattle.numbers.specs.Numbers.{names, named_or}
+use Rattle.numbers.specs.Numbers.{Named, names, named_or}
 use Rattle.rows.specs.Halfedges.{Column, start, end, column, pair_of}
 use Rattle.rows.specs.Triples.{triple, put_triple}
 use Rattle.pairing.specs.Pairing.{paired}
@@ -14,10 +14,12 @@ append capacity v m =
     cond (leb capacity m.run.vertices) (ended NoRoom m)
     (middle m.halfedges (put_triple m.run.vertices (triple m.positions v) m.positions) (with_vertices (m.run.vertices + 1) m.run))
 
--- a copy of the position where row h starts or ends
+-- a copy of the position of the vertex that is named; of the position where row h starts or ends
+abbrev pub copy_named : ℕ → Named → Middle → Middle
+copy_named capacity named m = cond (refused m) m (named_or (ended Stopped m) named (λ v. append capacity v m))
+
 unfoldable pub copy : Column → ℕ → ℕ → Middle → Middle
-copy c capacity h m =
-    cond (refused m) m (named_or (ended Stopped m) (names (column c m.halfedges h) m.run.vertices) (λ v. append capacity v m))
+copy c capacity h m = copy_named capacity (names (column c m.halfedges h) m.run.vertices) m
 
 -- the two edges: half-edges a and b, with their partners p and q
 pub record Across : Type 0 where

@@ -2,14 +2,23 @@
 // its entry is the crate formloop.
 #![tactic(auto)]
 
-ghost use Rattle.std.specs.Prelude.{◌≡◌, List, ℕ, ◌<◌, ◌≤◌, ◌^◌, ℤ};
-ghost use Rattle.numbers.specs.Numbers.{halfedge_number, vertex_number};
-ghost use Rattle.rows.specs.Halfedges.{start, end, lent_halfedges};
+ghost use Rattle.std.specs.Prelude.{◌≡◌, List, ℕ, ◌<◌, ◌≤◌, ◌^◌, ℤ, IfSome};
+ghost use Rattle.numbers.specs.Numbers.{halfedge_number, vertex_number, vertex_named};
 ghost use Rattle.steps.specs.Steps.{middle, InUse, VerticesIn};
-ghost use Rattle.loops.specs.Loops.{across, append, copy, exchange, cross_at, cross, loop_at};
+ghost use Rattle.loops.specs.Loops.{append, copy_named, exchange, cross_at, cross, loop_at};
+ghost use Rattle.loops.specs.Edges.{edges_of, EdgesIn};
 
 use numbers::{Halfedge, Vertex};
 use steps::Run;
+
+// The half-edges of two edges: a and b, and their partners p and q.
+#[derive(Clone, Copy)]
+struct Edges {
+    a: Halfedge,
+    b: Halfedge,
+    p: Halfedge,
+    q: Halfedge,
+}
 
 // Appends a copy of the position of v, where there is room.
 pub fn append_copy(positions: &mut [u64], capacity: usize, run: Run, v: Vertex) -> Run
@@ -25,52 +34,30 @@ pub fn append_copy(positions: &mut [u64], capacity: usize, run: Run, v: Vertex) 
     steps::with_vertices(run, vertices + 1)
 }
 
-// The step that appends a copy of the position where h starts: it stops where that vertex isn't there.
-fn copy_start(rows: &[i32], positions: &mut [u64], capacity: usize, run: Run, h: Halfedge) -> Run
-    requires { (halfedge_number h < lent_halfedges rows.now) × ((run.vertices ≤ capacity) × VerticesIn capacity positions.old) }
-    ensures { (middle rows.now positions.new result ≡ copy start capacity (halfedge_number h) (middle rows.now positions.old run)) × (result.vertices ≤ capacity) }
+// The step that appends a copy of the position of the vertex that a row names: it stops where that vertex isn't there.
+fn copy_named(positions: &mut [u64], capacity: usize, run: Run, named: Option<Vertex>) -> Run
+    requires { IfSome named (λ v. vertex_number v < run.vertices) × ((run.vertices ≤ capacity) × VerticesIn capacity positions.old) }
+    ensures { ((h : List ℤ) → middle h positions.new result ≡ copy_named capacity (vertex_named named) (middle h positions.old run)) × (result.vertices ≤ capacity) }
 {
     if steps::refused(run) {
         return run;
     }
-    let Some(v) = rows::halfedges::start_of(rows, h, run.vertices) else {
-        return steps::stopped(run);
-    };
-    append_copy(positions, capacity, run, v)
-}
-
-// The step that appends a copy of the position where h ends.
-fn copy_end(rows: &[i32], positions: &mut [u64], capacity: usize, run: Run, h: Halfedge) -> Run
-    requires { (halfedge_number h < lent_halfedges rows.now) × ((run.vertices ≤ capacity) × VerticesIn capacity positions.old) }
-    ensures { (middle rows.now positions.new result ≡ copy end capacity (halfedge_number h) (middle rows.now positions.old run)) × (result.vertices ≤ capacity) }
-{
-    if steps::refused(run) {
-        return run;
-    }
-    let Some(v) = rows::halfedges::end_of(rows, h, run.vertices) else {
+    let Some(v) = named else {
         return steps::stopped(run);
     };
     append_copy(positions, capacity, run, v)
 }
 
 // The step that exchanges the partners p of a and q of b.
-fn exchange_step(
-    rows: &mut [i32],
-    halfedges: usize,
-    run: Run,
-    a: Halfedge,
-    b: Halfedge,
-    p: Halfedge,
-    q: Halfedge,
-) -> Run
-    requires { ((halfedge_number a < halfedges) × ((halfedge_number b < halfedges) × ((halfedge_number p < halfedges) × (halfedge_number q < halfedges)))) × InUse halfedges rows.old }
-    ensures { ((o : List ℕ) → middle rows.new o result ≡ exchange (across (halfedge_number a) (halfedge_number b) (halfedge_number p) (halfedge_number q)) (middle rows.old o run)) × (result.vertices ≡ run.vertices) }
+fn exchange_step(rows: &mut [i32], halfedges: usize, run: Run, x: Edges) -> Run
+    requires { EdgesIn halfedges (edges_of x) × InUse halfedges rows.old }
+    ensures { ((o : List ℕ) → middle rows.new o result ≡ exchange (edges_of x) (middle rows.old o run)) × (result.vertices ≡ run.vertices) }
 {
     if steps::refused(run) {
         return run;
     }
-    pairing::pair_rows(rows, a, q);
-    pairing::pair_rows(rows, b, p);
+    pairing::pair_rows(rows, x.a, x.q);
+    pairing::pair_rows(rows, x.b, x.p);
     run
 }
 
@@ -82,18 +69,15 @@ fn cross_at(
     run: Run,
     v: Vertex,
     w: Vertex,
-    a: Halfedge,
-    b: Halfedge,
-    p: Halfedge,
-    q: Halfedge,
+    x: Edges,
 ) -> Run
-    requires { ((halfedge_number a < halfedges) × ((halfedge_number b < halfedges) × ((halfedge_number p < halfedges) × (halfedge_number q < halfedges)))) × (((vertex_number v < 2 ^ 31) × (vertex_number w < 2 ^ 31)) × (InUse halfedges rows.old × VerticesIn run.vertices positions.old)) }
-    ensures { (middle rows.new positions.new result ≡ cross_at halfedges (vertex_number v) (vertex_number w) (across (halfedge_number a) (halfedge_number b) (halfedge_number p) (halfedge_number q)) (middle rows.old positions.old run)) × (result.vertices ≡ run.vertices) }
+    requires { EdgesIn halfedges (edges_of x) × (((vertex_number v < 2 ^ 31) × (vertex_number w < 2 ^ 31)) × (InUse halfedges rows.old × VerticesIn run.vertices positions.old)) }
+    ensures { (middle rows.new positions.new result ≡ cross_at halfedges (vertex_number v) (vertex_number w) (edges_of x) (middle rows.old positions.old run)) × (result.vertices ≡ run.vertices) }
 {
-    let first = walks::update_step(rows, halfedges, run, v, p, q);
-    let second = walks::update_step(rows, halfedges, first, w, b, a);
-    let exchanged = exchange_step(rows, halfedges, second, a, b, p, q);
-    folds::fold_step(rows, positions, halfedges, exchanged, b)
+    let first = walks::update_step(rows, halfedges, run, v, x.p, x.q);
+    let second = walks::update_step(rows, halfedges, first, w, x.b, x.a);
+    let exchanged = exchange_step(rows, halfedges, second, x);
+    folds::fold_step(rows, positions, halfedges, exchanged, x.b)
 }
 
 // The same where both partners are there.
@@ -119,7 +103,8 @@ fn cross(
     let Some(q) = rows::halfedges::pair_of(rows, b, halfedges) else {
         return steps::stopped(run);
     };
-    cross_at(rows, positions, halfedges, run, v, w, a, b, p, q)
+    let x = Edges { a, b, p, q };
+    cross_at(rows, positions, halfedges, run, v, w, x)
 }
 
 // The step of form_loop.
@@ -138,7 +123,9 @@ pub fn loop_step(
     let vertices = run.vertices;
     let v = numbers::vertex_appended(vertices);
     let w = numbers::vertex_appended(vertices + 1);
-    let started = copy_start(rows, positions, capacity, run, a);
-    let copied = copy_end(rows, positions, capacity, started, a);
+    let start = rows::halfedges::start_of(rows, a, vertices);
+    let started = copy_named(positions, capacity, run, start);
+    let end = rows::halfedges::end_of(rows, a, started.vertices);
+    let copied = copy_named(positions, capacity, started, end);
     cross(rows, positions, halfedges, copied, v, w, a, b)
 }

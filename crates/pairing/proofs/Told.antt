@@ -8,7 +8,6 @@ use native.Mathlib.Omega.{arith}
 use lib.IntN.{ℤ, pos}
 use lib.ListN.{length}
 use Rattle.answers.specs.Answers.{Said, done}
-use Rattle.answers.proofs.Laws.{numbers_differ}
 use Rattle.laws.proofs.Tests.{by_test}
 use Rattle.numbers.specs.Numbers.{Named, at, nothing, names}
 use Rattle.numbers.proofs.Names.{names_at}

@@ -8,7 +8,7 @@ use Rattle.refused.specs.declared.Refusal.TheVariants as R
 use Rattle.numbers.specs.declared.Halfedge.{Halfedge}
 use Rattle.numbers.specs.declared.Vertex.{Vertex}
 use Rattle.numbers.specs.Numbers.{Named, at, nothing, halfedge_number, vertex_number}
-use Rattle.refused.specs.Refused.{refused, said, plain_said, count_said, halfedge_or_refused, vertex_or_refused}
+use Rattle.refused.specs.Refused.{refused, said, plain_said, count_said}
 
 long_of : List Value → Refusal
 long_of (float length ∷ float limit ∷ []) = R.Long length limit
@@ -72,20 +72,3 @@ plain_agree = said_agree (λ x. []) (λ x y e. refl)
 
 pub count_agree : (a b : Result ℕ Refusal) → count_said a ≡ count_said b → a ≡ b
 count_agree = said_agree (λ n. whole (pos n) ∷ []) (λ m n e. cc)
-
--- a caller's number that was taken names what it was taken as; one that was refused names nothing
-pub taken : (n : Named) {h : Halfedge} → halfedge_or_refused n ≡ Ok h → n ≡ at (halfedge_number h)
-taken (at k) e = cc
-taken nothing e = cc
-
-pub not_taken : (n : Named) {r : Refusal} → halfedge_or_refused n ≡ Err r → (n ≡ nothing) × (r ≡ R.Number)
-not_taken (at k) e = cc
-not_taken nothing e = (refl, cc)
-
-pub vertex_taken : (n : Named) {v : Vertex} → vertex_or_refused n ≡ Ok v → n ≡ at (vertex_number v)
-vertex_taken (at k) e = cc
-vertex_taken nothing e = cc
-
-pub vertex_not_taken : (n : Named) {r : Refusal} → vertex_or_refused n ≡ Err r → (n ≡ nothing) × (r ≡ R.Number)
-vertex_not_taken (at k) e = cc
-vertex_not_taken nothing e = (refl, cc)

@@ -33,12 +33,3 @@ count_said = said (λ n. whole (pos n) ∷ [])
 -- the row that comes with 3, 0 where none comes
 abbrev pub row_of : Said → ℕ
 row_of s = cond (eqb s.number 3) (counted (value s.values 0)) 0
-
--- a caller's number as a half-edge, as a vertex: refused where it names nothing
-abbrev pub halfedge_or_refused : Named → Result Halfedge Refusal
-halfedge_or_refused (at n) = Ok (record { 0 = n })
-halfedge_or_refused nothing = Err R.Number
-
-abbrev pub vertex_or_refused : Named → Result Vertex Refusal
-vertex_or_refused (at n) = Ok (record { 0 = n })
-vertex_or_refused nothing = Err R.Number

@@ -2,9 +2,9 @@
 // gives, and when.
 #![tactic(auto)]
 
-ghost use Rattle.std.specs.Prelude.{◌≡◌};
-ghost use Rattle.numbers.specs.Numbers.{names};
-ghost use Rattle.refused.specs.Refused.{refused, row_of, halfedge_or_refused, vertex_or_refused};
+ghost use Rattle.std.specs.Prelude.{◌≡◌, ◌<◌, IfOk, IfErr};
+ghost use Rattle.numbers.specs.Numbers.{at, nothing, names, halfedge_number, vertex_number};
+ghost use Rattle.refused.specs.Refused.{refused, row_of};
 
 use numbers::{Halfedge, Vertex};
 
@@ -58,14 +58,16 @@ impl Refusal {
 
 // A caller's number as a half-edge, tested.
 pub fn halfedge_given(x: i32, halfedges: usize) -> Result<Halfedge, Refusal>
-    ensures { result ≡ halfedge_or_refused (names x halfedges) }
+    ensures taken { IfOk result (λ h. (names x halfedges ≡ at (halfedge_number h)) × (halfedge_number h < halfedges)) }
+    ensures refused { IfErr result (λ r. (names x halfedges ≡ nothing) × (r ≡ Refusal.Number)) }
 {
     numbers::halfedge_read(x, halfedges).ok_or(Refusal::Number)
 }
 
 // A caller's number as a vertex, tested.
 pub fn vertex_given(x: i32, vertices: usize) -> Result<Vertex, Refusal>
-    ensures { result ≡ vertex_or_refused (names x vertices) }
+    ensures taken { IfOk result (λ v. (names x vertices ≡ at (vertex_number v)) × (vertex_number v < vertices)) }
+    ensures refused { IfErr result (λ r. (names x vertices ≡ nothing) × (r ≡ Refusal.Number)) }
 {
     numbers::vertex_read(x, vertices).ok_or(Refusal::Number)
 }

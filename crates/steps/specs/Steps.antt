@@ -68,6 +68,9 @@ how_said vertices H.Going = done (whole (pos vertices) ∷ [])
 how_said vertices H.NoRoom = no_room
 how_said vertices H.Stopped = stopped
 
+abbrev pub run_said : Run → Said
+run_said r = how_said r.vertices r.how
+
 -- H half-edge rows are in use, in whole triangles, and lent; N positions are
 abbrev pub InUse : ℕ → List ℤ → Type 0
 InUse H rows = (H % 3 ≡ 0) × ((H ≤ lent_halfedges rows) × (H ≤ most_halfedges))

@@ -4,10 +4,13 @@
 #![tactic(auto)]
 
 ghost use Rattle.std.specs.Prelude.{◌≡◌, ◌≤◌};
+ghost use Rattle.refused.specs.Refused.{count_said};
 ghost use Rattle.rows.specs.Halfedges.{lent_halfedges};
 ghost use Rattle.rows.specs.Triples.{lent_triples};
-ghost use Rattle.steps.specs.Steps.{middle, begun_run, with_vertices, ended_run, NoRoom, Stopped, is_refused};
+ghost use Rattle.steps.specs.Steps.{middle, begun_run, with_vertices, ended_run, NoRoom, Stopped, is_refused, run_said};
 ghost use Rattle.steps.specs.Settle.{settled_by};
+
+use refused::Refusal;
 
 // Whether the steps go on: the next append would pass a capacity; a row isn't there, or a walk never ends.
 #[derive(Clone, Copy)]
@@ -29,7 +32,7 @@ pub fn begun(vertices: usize) -> Run
     ensures { result ≡ begun_run vertices }
 {
     Run {
-        vertices: vertices,
+        vertices,
         how: How::Going,
     }
 }
@@ -38,11 +41,7 @@ pub fn begun(vertices: usize) -> Run
 pub fn with_vertices(run: Run, vertices: usize) -> Run
     ensures { result ≡ with_vertices vertices run }
 {
-    let how = run.how;
-    Run {
-        vertices: vertices,
-        how: how,
-    }
+    Run { vertices, ..run }
 }
 
 // The steps stop here: a row isn't there, or a walk never ends.
@@ -50,8 +49,8 @@ pub fn stopped(run: Run) -> Run
     ensures { result ≡ ended_run Stopped run }
 {
     Run {
-        vertices: run.vertices,
         how: How::Stopped,
+        ..run
     }
 }
 
@@ -60,8 +59,8 @@ pub fn no_room(run: Run) -> Run
     ensures { result ≡ ended_run NoRoom run }
 {
     Run {
-        vertices: run.vertices,
         how: How::NoRoom,
+        ..run
     }
 }
 
@@ -69,11 +68,20 @@ pub fn no_room(run: Run) -> Run
 pub fn refused(run: Run) -> bool
     ensures { result ≡ is_refused run.how }
 {
-    let how = run.how;
-    match how {
+    match run.how {
         How::Going => false,
-        How::NoRoom => true,
-        How::Stopped => true,
+        How::NoRoom | How::Stopped => true,
+    }
+}
+
+// How the steps ended, as an entry says it: the vertices in use, or what refused.
+pub fn answer(run: Run) -> Result<usize, Refusal>
+    ensures { count_said result ≡ run_said run }
+{
+    match run.how {
+        How::Going => Ok(run.vertices),
+        How::NoRoom => Err(Refusal::NoRoom),
+        How::Stopped => Err(Refusal::Stopped),
     }
 }
 

@@ -32,10 +32,10 @@ returns-in_default-pair_of-3 c =
 pub join_rows-requires : goal.join_rows-requires
 join_rows-requires c =
     let s = c.args in
-    let x1 = names_below (pair_of s.rows.now s.e1.0) s.halfedges (sym (rw c.in-Some.is at c.pair_of.ensures)) in
-    let x2 = names_below (pair_of s.rows.now s.e2.0) s.halfedges (sym (rw c.in-Some-pair_of.is at c.pair_of-2.ensures)) in
-    let x3 = names_below (pair_of s.rows.now s.f1.0) s.halfedges (sym (rw c.in-Some-pair_of-2.is at c.pair_of-3.ensures)) in
-    let x4 = names_below (pair_of s.rows.now s.f2.0) s.halfedges (sym (rw c.in-Some-pair_of-3.is at c.pair_of-4.ensures)) in
+    let x1 = names_below (pair_of s.rows.now s.t.e1.0) s.halfedges (sym (rw c.in-Some.is at c.pair_of.ensures)) in
+    let x2 = names_below (pair_of s.rows.now s.t.e2.0) s.halfedges (sym (rw c.in-Some-pair_of.is at c.pair_of-2.ensures)) in
+    let x3 = names_below (pair_of s.rows.now s.t.f1.0) s.halfedges (sym (rw c.in-Some-pair_of-2.is at c.pair_of-3.ensures)) in
+    let x4 = names_below (pair_of s.rows.now s.t.f2.0) s.halfedges (sym (rw c.in-Some-pair_of-3.is at c.pair_of-4.ensures)) in
     omega (arith, x1, x2, x3, x4, c.requires.1.0, c.requires.1.1.0, c.requires.1.1.1)
 
 pub returns : goal.returns
