@@ -7,12 +7,14 @@ use Prim.Native.Nat.{ℕ}
 use lib.Dec.{eqb}
 use lib.IntN.{ℤ, pos}
 use Rattle.answers.specs.Answers.{Said, done, dead}
-use Rattle.answers.proofs.Laws.{first_value, read_back}
 use Rattle.laws.proofs.Tests.{by_test}
 use Rattle.numbers.specs.Numbers.{Named, at, nothing, names}
 use Rattle.numbers.specs.Next.{next}
 use Rattle.numbers.proofs.Names.{names_at}
 use Rattle.rows.specs.Halfedges.{is_paired}
+use Rattle.std.specs.Prelude.{⊤, Result}
+use Rattle.refused.specs.declared.Refusal.{Refusal}
+use Rattle.refused.proofs.Laws.{plain_agree}
 use Rattle.net.specs.declared.Counts.{Counts}
 use Rattle.net.specs.Net.{Net}
 use Rattle.net.specs.Sound.{partner, Live, Sound}
@@ -21,8 +23,6 @@ use Rattle.net.proofs.Sound.{live_paired, live_row, next_live}
 use Rattle.soundness.specs.Check.{check_net}
 use Rattle.soundness.proofs.Told.{check_sound}
 use Rattle.steps.specs.Steps.{begin}
-use Rattle.collapsetri.specs.declared.CollapseTri.{CollapseTri}
-use Rattle.collapsetri.specs.declared.CollapseTri.TheVariants as C
 use Rattle.triangles.specs.Triangles.{collapse, Collapsed}
 use Rattle.collapsetri.specs.CollapseTri.{collapse_said, collapse_named, collapse_tri}
 use Rattle.triangles.proofs.Emptied.{collapsed_told}
@@ -75,22 +75,7 @@ module _ (c : Counts) (n : Net) (halfedge : ℤ) where
       go (at e) m = at_one e (is_paired rows e) m
       go nothing m = refl
 
--- the answer, read back from what is said
-abbrev answer_of : Said → CollapseTri
-answer_of s =
-    cond (eqb s.number 0) C.Done
-    (cond (eqb s.number 1) C.Shape
-    (cond (eqb s.number 3) (C.Unsound (record { 0 = first_value s }))
-    (cond (eqb s.number 4) C.Number C.Dead)))
-
-told : (a : CollapseTri) → answer_of (collapse_said a) ≡ a
-told C.Done = refl
-told C.Shape = refl
-told (C.Unsound h) = refl
-told C.Number = refl
-told C.Dead = refl
-
-pub collapse_agree : (c : Counts) (n : Net) (halfedge : ℤ) (a b : CollapseTri) (l m : List ℤ) →
+pub collapse_agree : (c : Counts) (n : Net) (halfedge : ℤ) (a b : Result ⊤ Refusal) (l m : List ℤ) →
     (collapse_said a, l) ≡ collapse_tri c n halfedge → (collapse_said b, m) ≡ collapse_tri c n halfedge → (a ≡ b) × (l ≡ m)
 collapse_agree c n halfedge a b l m p q =
-    (read_back collapse_said answer_of told a b (ap (λ (o : Said × List ℤ). o.0) (p ∙ sym q)), ap (λ (o : Said × List ℤ). o.1) (p ∙ sym q))
+    (plain_agree a b (ap (λ (o : Said × List ℤ). o.0) (p ∙ sym q)), ap (λ (o : Said × List ℤ). o.1) (p ∙ sym q))

@@ -1,23 +1,19 @@
 -- The entry collapse_tri: answers 1, 3, 4, 5, 0. On a sound net its step is never stopped (triangles/proofs/Told.antt).
-use Rattle.std.specs.Prelude.{cond, List, [], ℕ, ℤ}
-use Rattle.answers.specs.Answers.{Said, done, shape, unsound, bad_number, dead}
-use Rattle.numbers.specs.Numbers.{Named, names, named_or, halfedge_number}
+use Rattle.std.specs.Prelude.{cond, ⊤, Result, List, [], ℕ, ℤ}
+use Rattle.answers.specs.Answers.{Said, done, bad_number, dead}
+use Rattle.numbers.specs.Numbers.{Named, names, named_or}
 use Rattle.rows.specs.Halfedges.{is_paired}
+use Rattle.refused.specs.declared.Refusal.{Refusal}
+use Rattle.refused.specs.Refused.{plain_said}
 use Rattle.net.specs.declared.Counts.{Counts}
 use Rattle.net.specs.Net.{Net}
 use Rattle.soundness.specs.Check.{check_net}
 use Rattle.steps.specs.Steps.{begin}
 use Rattle.steps.specs.Entries.{past}
-use Rattle.collapsetri.specs.declared.CollapseTri.{CollapseTri}
-use Rattle.collapsetri.specs.declared.CollapseTri.TheVariants as C
 use Rattle.triangles.specs.Triangles.{collapse}
 
-abbrev pub collapse_said : CollapseTri → Said
-collapse_said C.Done = done []
-collapse_said C.Shape = shape
-collapse_said (C.Unsound h) = unsound (halfedge_number h)
-collapse_said C.Number = bad_number
-collapse_said C.Dead = dead
+abbrev pub collapse_said : Result ⊤ Refusal → Said
+collapse_said = plain_said
 
 -- what is said, and the half-edge rows afterwards. It says done without asking how the step's run ended: past the checks e is live in rows
 -- in order, where the step cannot stop (collapse_goes in triangles/proofs/Told.antt)

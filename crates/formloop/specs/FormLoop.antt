@@ -1,34 +1,24 @@
 -- The entry form_loop: answers 1, 2, 3, 4, 5, then 6 or 7, whichever the steps meet first; 0 with the vertices in use.
-use Rattle.std.specs.Prelude.{cond, ◌&&◌, List, [], ◌∷◌, ℕ, ℤ, pos}
-use Rattle.answers.specs.Answers.{Said, whole, done, shape, short_buffer, unsound, bad_number, dead, no_room, stopped}
-use Rattle.numbers.specs.Numbers.{Named, names, named_or, halfedge_number}
+use Rattle.std.specs.Prelude.{cond, ◌&&◌, Result, List, ℕ, ℤ}
+use Rattle.answers.specs.Answers.{Said, shape, short_buffer, bad_number, dead}
+use Rattle.numbers.specs.Numbers.{Named, names, named_or}
 use Rattle.rows.specs.Halfedges.{is_paired, over_rows}
 use Rattle.rows.specs.Triples.{over_triples}
+use Rattle.refused.specs.declared.Refusal.{Refusal}
+use Rattle.refused.specs.Refused.{count_said}
 use Rattle.net.specs.declared.Counts.{Counts}
 use Rattle.net.specs.Net.{Net}
 use Rattle.net.specs.Counts.{is_shaped, spare_holds, vertex_capacity_over}
 use Rattle.soundness.specs.Check.{sound_or}
 use Rattle.rowtests.specs.Order.{least_out}
-use Rattle.steps.specs.declared.Run.{Run}
-use Rattle.steps.specs.Steps.{Middle, begin, how_said}
+pub use Rattle.steps.specs.Steps.{run_said}
+use Rattle.steps.specs.Steps.{Middle, begin}
 use Rattle.steps.specs.Settle.{settled}
 use Rattle.steps.specs.Entries.{past}
-use Rattle.formloop.specs.declared.FormLoop.{FormLoop}
-use Rattle.formloop.specs.declared.FormLoop.TheVariants as F
 use Rattle.loops.specs.Loops.{loop_at}
 
-abbrev pub form_said : FormLoop → Said
-form_said (F.Done vertices) = done (whole (pos vertices) ∷ [])
-form_said F.Shape = shape
-form_said F.ShortBuffer = short_buffer
-form_said (F.Unsound h) = unsound (halfedge_number h)
-form_said F.Number = bad_number
-form_said F.Dead = dead
-form_said F.NoRoom = no_room
-form_said F.Stopped = stopped
-
-abbrev pub run_said : Run → Said
-run_said r = how_said r.vertices r.how
+abbrev pub form_said : Result ℕ Refusal → Said
+form_said = count_said
 
 -- what is said, and the half-edge rows, positions and spares afterwards
 pub record Left : Type 0 where

@@ -8,37 +8,11 @@ ghost use Rattle.rows.specs.Triples.{lent_triples};
 ghost use Rattle.net.specs.Counts.{vertex_capacity_over};
 ghost use Rattle.net.specs.Net.{net};
 ghost use Rattle.steps.specs.Steps.{InUse, VerticesIn};
-ghost use Rattle.formloop.specs.FormLoop.{left, form_at, form_named, form_loop, form_said, run_said};
+ghost use Rattle.formloop.specs.FormLoop.{left, form_at, form_named, form_loop, form_said};
 
 use net::Counts;
 use numbers::Halfedge;
-use steps::{How, Run};
-
-// What form_loop answers: on Done the vertices in use afterwards.
-#[derive(Clone, Copy)]
-pub enum FormLoop {
-    Done(usize),
-    Shape,
-    ShortBuffer,
-    Unsound(Halfedge),
-    Number,
-    Dead,
-    NoRoom,
-    Stopped,
-}
-
-// How the steps ended, as the entry says it.
-fn answer(run: Run) -> FormLoop
-    ensures { form_said result ≡ run_said run }
-{
-    let vertices = run.vertices;
-    let how = run.how;
-    match how {
-        How::Going => FormLoop::Done(vertices),
-        How::NoRoom => FormLoop::NoRoom,
-        How::Stopped => FormLoop::Stopped,
-    }
-}
+use refused::Refusal;
 
 // form_loop past the checks: the rows in use go to the spare, the steps work in place, and a refusal puts everything back.
 fn form_at(
@@ -51,7 +25,7 @@ fn form_at(
     capacity: usize,
     a: Halfedge,
     b: Halfedge,
-) -> FormLoop
+) -> Result<usize, Refusal>
     requires { ((halfedge_number a < halfedges) × (halfedge_number b < halfedges)) × (InUse halfedges rows.old × ((vertices ≤ capacity) × (VerticesIn capacity positions.old × ((halfedges ≤ lent_halfedges spare_halfedges.old) × (vertices ≤ lent_triples spare_positions.old))))) }
     ensures { left (form_said result) rows.new positions.new spare_halfedges.new spare_positions.new ≡ form_at halfedges vertices capacity (halfedge_number a) (halfedge_number b) rows.old positions.old spare_halfedges.old spare_positions.old }
 {
@@ -75,10 +49,11 @@ fn form_at(
         vertices,
         run,
     );
-    answer(run)
+    steps::answer(run)
 }
 
 // Forms a loop at the half-edges that a caller's numbers name.
+#[tactic(auto, unfolding(crate::specs::FormLoop::form_named))]
 fn form_named(
     rows: &mut [i32],
     positions: &mut [u64],
@@ -88,18 +63,14 @@ fn form_named(
     vertices: usize,
     first: i32,
     second: i32,
-) -> FormLoop
+) -> Result<usize, Refusal>
     requires { InUse halfedges rows.old × ((vertices ≤ vertex_capacity_over positions.old) × ((halfedges ≤ lent_halfedges spare_halfedges.old) × (vertices ≤ lent_triples spare_positions.old))) }
     ensures { left (form_said result) rows.new positions.new spare_halfedges.new spare_positions.new ≡ form_named halfedges vertices rows.old positions.old spare_halfedges.old spare_positions.old (names first halfedges) (names second halfedges) }
 {
-    let Some(a) = numbers::halfedge_given(first, halfedges) else {
-        return FormLoop::Number;
-    };
-    let Some(b) = numbers::halfedge_given(second, halfedges) else {
-        return FormLoop::Number;
-    };
+    let a = refused::halfedge_given(first, halfedges)?;
+    let b = refused::halfedge_given(second, halfedges)?;
     if !(edgetests::is_paired(rows, a) & edgetests::is_paired(rows, b)) {
-        return FormLoop::Dead;
+        return Err(Refusal::Dead);
     }
     let capacity = net::vertex_capacity(positions);
     form_at(
@@ -115,7 +86,8 @@ fn form_named(
     )
 }
 
-// The entry form_loop.
+// The entry form_loop: the vertices in use afterwards.
+#[tactic(auto, using(refused::proofs::Laws::refused_number), unfolding(crate::specs::FormLoop::form_loop))]
 pub fn form_loop(
     counts: Counts,
     halfedges: &mut [i32],
@@ -127,28 +99,26 @@ pub fn form_loop(
     spare_positions: &mut [u64],
     first: i32,
     second: i32,
-) -> FormLoop
+) -> Result<usize, Refusal>
     ensures { left (form_said result) halfedges.new positions.new spare_halfedges.new spare_positions.new ≡ form_loop counts (net halfedges.old positions.old normals.now references.now properties.now) spare_halfedges.old spare_positions.old first second }
 {
     if !net::shaped(
         counts, halfedges, positions, normals, references, properties,
     ) {
-        return FormLoop::Shape;
+        return Err(Refusal::Shape);
     }
     if !net::spare_fits(counts, spare_halfedges, spare_positions) {
-        return FormLoop::ShortBuffer;
+        return Err(Refusal::ShortBuffer);
     }
-    match soundness::first_out(halfedges, counts.halfedges, counts.vertices) {
-        Some(h) => FormLoop::Unsound(h),
-        None => form_named(
-            halfedges,
-            positions,
-            spare_halfedges,
-            spare_positions,
-            counts.halfedges,
-            counts.vertices,
-            first,
-            second,
-        ),
-    }
+    soundness::check_rows(halfedges, counts.halfedges, counts.vertices)?;
+    form_named(
+        halfedges,
+        positions,
+        spare_halfedges,
+        spare_positions,
+        counts.halfedges,
+        counts.vertices,
+        first,
+        second,
+    )
 }

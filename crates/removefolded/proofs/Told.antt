@@ -6,12 +6,14 @@ use mathlib.Core.List.{List, []}
 use Prim.Native.Nat.{ℕ}
 use lib.Dec.{eqb}
 use lib.IntN.{ℤ, pos}
-use Rattle.answers.specs.Answers.{Said, done, dead}
-use Rattle.answers.proofs.Laws.{first_value, read_back}
+use Rattle.answers.specs.Answers.{done, dead}
 use Rattle.laws.proofs.Tests.{by_test}
 use Rattle.numbers.specs.Numbers.{Named, at, nothing, names}
 use Rattle.numbers.proofs.Names.{names_at}
 use Rattle.rows.specs.Halfedges.{is_paired}
+use Rattle.std.specs.Prelude.{⊤, Result}
+use Rattle.refused.specs.declared.Refusal.{Refusal}
+use Rattle.refused.proofs.Laws.{plain_agree}
 use Rattle.net.specs.declared.Counts.{Counts}
 use Rattle.net.specs.Net.{Net}
 use Rattle.net.specs.Sound.{Live, Sound}
@@ -19,8 +21,6 @@ use Rattle.net.proofs.Sound.{live_paired}
 use Rattle.soundness.specs.Check.{check_net}
 use Rattle.soundness.proofs.Told.{check_sound}
 use Rattle.steps.specs.Steps.{begin}
-use Rattle.removefolded.specs.declared.RemoveIfFolded.{RemoveIfFolded}
-use Rattle.removefolded.specs.declared.RemoveIfFolded.TheVariants as R
 use Rattle.folds.specs.Folds.{fold}
 use Rattle.removefolded.specs.RemoveIfFolded.{Out, with_arrays, remove_said, fold_named, remove_if_folded}
 
@@ -53,22 +53,7 @@ module _ (c : Counts) (n : Net) (halfedge : ℤ) where
       go (at e) m = at_one e (is_paired n.halfedges e) m
       go nothing m = refl
 
--- the answer, read back from what is said
-abbrev answer_of : Said → RemoveIfFolded
-answer_of s =
-    cond (eqb s.number 0) R.Done
-    (cond (eqb s.number 1) R.Shape
-    (cond (eqb s.number 3) (R.Unsound (record { 0 = first_value s }))
-    (cond (eqb s.number 4) R.Number R.Dead)))
-
-told : (a : RemoveIfFolded) → answer_of (remove_said a) ≡ a
-told R.Done = refl
-told R.Shape = refl
-told (R.Unsound h) = refl
-told R.Number = refl
-told R.Dead = refl
-
-pub remove_agree : (c : Counts) (n : Net) (halfedge : ℤ) (a b : RemoveIfFolded) (l m : List ℤ × List ℕ) →
+pub remove_agree : (c : Counts) (n : Net) (halfedge : ℤ) (a b : Result ⊤ Refusal) (l m : List ℤ × List ℕ) →
     (remove_said a, l) ≡ remove_if_folded c n halfedge → (remove_said b, m) ≡ remove_if_folded c n halfedge → (a ≡ b) × (l ≡ m)
 remove_agree c n halfedge a b l m p q =
-    (read_back remove_said answer_of told a b (ap (λ (o : Out). o.0) (p ∙ sym q)), ap (λ (o : Out). o.1) (p ∙ sym q))
+    (plain_agree a b (ap (λ (o : Out). o.0) (p ∙ sym q)), ap (λ (o : Out). o.1) (p ∙ sym q))

@@ -1,23 +1,19 @@
 -- The entry remove_if_folded: answers 1, 3, 4, 5, 0; not folded there is 0, unchanged.
-use Rattle.std.specs.Prelude.{cond, List, [], ℕ, ℤ}
-use Rattle.answers.specs.Answers.{Said, done, shape, unsound, bad_number, dead}
-use Rattle.numbers.specs.Numbers.{Named, names, named_or, halfedge_number}
+use Rattle.std.specs.Prelude.{cond, ⊤, Result, List, [], ℕ, ℤ}
+use Rattle.answers.specs.Answers.{Said, done, bad_number, dead}
+use Rattle.numbers.specs.Numbers.{Named, names, named_or}
 use Rattle.rows.specs.Halfedges.{is_paired}
+use Rattle.refused.specs.declared.Refusal.{Refusal}
+use Rattle.refused.specs.Refused.{plain_said}
 use Rattle.net.specs.declared.Counts.{Counts}
 use Rattle.net.specs.Net.{Net}
 use Rattle.soundness.specs.Check.{check_net}
 use Rattle.steps.specs.Steps.{Middle, begin}
 use Rattle.steps.specs.Entries.{past}
-use Rattle.removefolded.specs.declared.RemoveIfFolded.{RemoveIfFolded}
-use Rattle.removefolded.specs.declared.RemoveIfFolded.TheVariants as R
 use Rattle.folds.specs.Folds.{fold}
 
-abbrev pub remove_said : RemoveIfFolded → Said
-remove_said R.Done = done []
-remove_said R.Shape = shape
-remove_said (R.Unsound h) = unsound (halfedge_number h)
-remove_said R.Number = bad_number
-remove_said R.Dead = dead
+abbrev pub remove_said : Result ⊤ Refusal → Said
+remove_said = plain_said
 
 -- what is said, and the half-edge rows and positions afterwards
 abbrev pub Out : Type 0

@@ -10,12 +10,15 @@ use native.Mathlib.Omega.{arith}
 use lib.Dec.{eqb}
 use lib.IntN.{ℤ, pos}
 use Rattle.answers.specs.Answers.{Said, done, dead, stopped}
-use Rattle.answers.proofs.Laws.{numbers_differ, first_value, read_back}
+use Rattle.answers.proofs.Laws.{numbers_differ}
 use Rattle.laws.proofs.Tests.{by_test}
 use Rattle.numbers.specs.Numbers.{Named, at, nothing, names}
 use Rattle.numbers.proofs.Names.{names_at}
 use Rattle.rows.specs.Halfedges.{start, end, is_paired, lent_halfedges}
 use Rattle.rows.proofs.Columns.{columns_apart}
+use Rattle.std.specs.Prelude.{⊤, Result}
+use Rattle.refused.specs.declared.Refusal.{Refusal}
+use Rattle.refused.proofs.Laws.{plain_agree}
 use Rattle.net.specs.declared.Counts.{Counts}
 use Rattle.net.specs.Net.{Net}
 use Rattle.net.specs.Sound.{Live, Sound}
@@ -23,8 +26,6 @@ use Rattle.net.proofs.Shape.{within}
 use Rattle.net.proofs.Sound.{live_paired}
 use Rattle.soundness.specs.Check.{check_net}
 use Rattle.soundness.proofs.Told.{check_sound}
-use Rattle.updatevert.specs.declared.UpdateVert.{UpdateVert}
-use Rattle.updatevert.specs.declared.UpdateVert.TheVariants as U
 use Rattle.walks.specs.Walk.{reaches, walk_to}
 use Rattle.updatevert.specs.UpdateVert.{update_said, update_at, update_named, update_vert}
 use Rattle.walks.specs.Way.{Reached, Updated}
@@ -112,24 +113,7 @@ module _ (c : Counts) (n : Net) (vertex first last : ℤ) where
       go (at v) nothing z m = refl
       go nothing y z m = refl
 
--- the answer, read back from what is said
-abbrev answer_of : Said → UpdateVert
-answer_of s =
-    cond (eqb s.number 0) U.Done
-    (cond (eqb s.number 1) U.Shape
-    (cond (eqb s.number 3) (U.Unsound (record { 0 = first_value s }))
-    (cond (eqb s.number 4) U.Number
-    (cond (eqb s.number 5) U.Dead U.Stopped))))
-
-answer_told : (a : UpdateVert) → answer_of (update_said a) ≡ a
-answer_told U.Done = refl
-answer_told U.Shape = refl
-answer_told (U.Unsound h) = refl
-answer_told U.Number = refl
-answer_told U.Dead = refl
-answer_told U.Stopped = refl
-
-pub update_agree : (c : Counts) (n : Net) (vertex first last : ℤ) (a b : UpdateVert) (l m : List ℤ) →
+pub update_agree : (c : Counts) (n : Net) (vertex first last : ℤ) (a b : Result ⊤ Refusal) (l m : List ℤ) →
     (update_said a, l) ≡ update_vert c n vertex first last → (update_said b, m) ≡ update_vert c n vertex first last → (a ≡ b) × (l ≡ m)
 update_agree c n vertex first last a b l m p q =
-    (read_back update_said answer_of answer_told a b (ap (λ (o : Said × List ℤ). o.0) (p ∙ sym q)), ap (λ (o : Said × List ℤ). o.1) (p ∙ sym q))
+    (plain_agree a b (ap (λ (o : Said × List ℤ). o.0) (p ∙ sym q)), ap (λ (o : Said × List ℤ). o.1) (p ∙ sym q))

@@ -1,23 +1,18 @@
 -- The entry update_vert: answers 1, 3, 4, 5, 7, 0. There is no spare: the walk is tried without writing first.
-use Rattle.std.specs.Prelude.{cond, ◌&&◌, List, [], ℕ, ℤ}
-use Rattle.answers.specs.Answers.{Said, done, shape, unsound, bad_number, dead, stopped}
-use Rattle.numbers.specs.Numbers.{Named, names, named_or, halfedge_number}
+use Rattle.std.specs.Prelude.{cond, ◌&&◌, ⊤, Result, List, [], ℕ, ℤ}
+use Rattle.answers.specs.Answers.{Said, done, bad_number, dead, stopped}
+use Rattle.numbers.specs.Numbers.{Named, names, named_or}
 use Rattle.rows.specs.Halfedges.{is_paired}
+use Rattle.refused.specs.declared.Refusal.{Refusal}
+use Rattle.refused.specs.Refused.{plain_said}
 use Rattle.net.specs.declared.Counts.{Counts}
 use Rattle.net.specs.Net.{Net}
 use Rattle.soundness.specs.Check.{check_net}
 use Rattle.steps.specs.Entries.{past}
-use Rattle.updatevert.specs.declared.UpdateVert.{UpdateVert}
-use Rattle.updatevert.specs.declared.UpdateVert.TheVariants as U
 use Rattle.walks.specs.Walk.{reaches, walk_to}
 
-abbrev pub update_said : UpdateVert → Said
-update_said U.Done = done []
-update_said U.Shape = shape
-update_said (U.Unsound h) = unsound (halfedge_number h)
-update_said U.Number = bad_number
-update_said U.Dead = dead
-update_said U.Stopped = stopped
+abbrev pub update_said : Result ⊤ Refusal → Said
+update_said = plain_said
 
 -- what is said, and the half-edge rows afterwards
 unfoldable pub update_at : ℕ → ℕ → ℕ → ℕ → List ℤ → Said × List ℤ

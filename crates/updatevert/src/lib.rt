@@ -10,38 +10,29 @@ ghost use Rattle.updatevert.specs.UpdateVert.{update_at, update_named, update_ve
 
 use net::Counts;
 use numbers::{Halfedge, Vertex};
-use soundness::Checked;
-
-// What update_vert answers.
-#[derive(Clone, Copy)]
-pub enum UpdateVert {
-    Done,
-    Shape,
-    Unsound(Halfedge),
-    Number,
-    Dead,
-    Stopped,
-}
+use refused::Refusal;
 
 // Updates between two half-edges of a sound net, where the walk ends.
+#[tactic(auto, unfolding(crate::specs::UpdateVert::update_at))]
 fn update_at(
     rows: &mut [i32],
     halfedges: usize,
     v: Vertex,
     start: Halfedge,
     end: Halfedge,
-) -> UpdateVert
+) -> Result<(), Refusal>
     requires { (halfedge_number start < halfedges) × ((vertex_number v < 2 ^ 31) × InUse halfedges rows.old) }
     ensures { (update_said result, rows.new) ≡ update_at halfedges (vertex_number v) (halfedge_number start) (halfedge_number end) rows.old }
 {
     if !walks::reaches(rows, halfedges, start, end) {
-        return UpdateVert::Stopped;
+        return Err(Refusal::Stopped);
     }
     walks::walk_to(rows, halfedges, v, start, end);
-    UpdateVert::Done
+    Ok(())
 }
 
 // Updates from and to the half-edges, and by the vertex, that a caller's numbers name.
+#[tactic(auto, unfolding(crate::specs::UpdateVert::update_named))]
 fn update_named(
     rows: &mut [i32],
     halfedges: usize,
@@ -49,26 +40,21 @@ fn update_named(
     vertex: i32,
     start: i32,
     end: i32,
-) -> UpdateVert
+) -> Result<(), Refusal>
     requires { (vertices < 2 ^ 31) × InUse halfedges rows.old }
     ensures { (update_said result, rows.new) ≡ update_named halfedges rows.old (names vertex vertices) (names start halfedges) (names end halfedges) }
 {
-    let Some(v) = numbers::vertex_given(vertex, vertices) else {
-        return UpdateVert::Number;
-    };
-    let Some(a) = numbers::halfedge_given(start, halfedges) else {
-        return UpdateVert::Number;
-    };
-    let Some(b) = numbers::halfedge_given(end, halfedges) else {
-        return UpdateVert::Number;
-    };
+    let v = refused::vertex_given(vertex, vertices)?;
+    let a = refused::halfedge_given(start, halfedges)?;
+    let b = refused::halfedge_given(end, halfedges)?;
     if !(edgetests::is_paired(rows, a) & edgetests::is_paired(rows, b)) {
-        return UpdateVert::Dead;
+        return Err(Refusal::Dead);
     }
     update_at(rows, halfedges, v, a, b)
 }
 
 // The entry update_vert.
+#[tactic(auto, using(refused::proofs::Laws::refused_number), unfolding(crate::specs::UpdateVert::update_vert))]
 pub fn update_vert(
     counts: Counts,
     halfedges: &mut [i32],
@@ -79,21 +65,18 @@ pub fn update_vert(
     vertex: i32,
     start: i32,
     end: i32,
-) -> UpdateVert
+) -> Result<(), Refusal>
     ensures { (update_said result, halfedges.new) ≡ update_vert counts (net halfedges.old positions.now normals.now references.now properties.now) vertex start end }
 {
-    match soundness::check_net(
+    soundness::check_net(
         counts, halfedges, positions, normals, references, properties,
-    ) {
-        Checked::Shape => UpdateVert::Shape,
-        Checked::Unsound(h) => UpdateVert::Unsound(h),
-        Checked::Sound => update_named(
-            halfedges,
-            counts.halfedges,
-            counts.vertices,
-            vertex,
-            start,
-            end,
-        ),
-    }
+    )?;
+    update_named(
+        halfedges,
+        counts.halfedges,
+        counts.vertices,
+        vertex,
+        start,
+        end,
+    )
 }
