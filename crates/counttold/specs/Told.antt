@@ -14,7 +14,7 @@ abbrev pub split_refused : ℕ → SplitAnswer
 split_refused number = record { number = number; row = 0; added = 0; steps = 0 }
 
 abbrev pub owners_told : Said → OwnersAnswer
-owners_told s = record { number = s.number; count = counted (value s.values 0) }
+owners_told s = record { number = s.number; count = count_on 0 s 0 }
 
 abbrev pub loop_told : Said → LoopAnswer
 loop_told s = record { number = s.number; row = count_on 3 s 0; vertices = count_on 0 s 0 }

@@ -9,8 +9,8 @@ use native.Mathlib.Omega.{arith}
 use borrow.Author.Tests.{ltb-true, ltb-false}
 use lib.Dec.{eqb, ltb}
 use lib.IntN.{ℤ, pos, nat_abs}
-use Rattle.answers.specs.Answers.{Said, value, counted}
-use Rattle.answers.proofs.Laws.{first_value, second_value, read_back}
+use Rattle.answers.specs.Answers.{Value, Said, done, value, counted}
+use Rattle.answers.proofs.Laws.{first_value, second_value}
 use Rattle.laws.specs.Integers.{eq_z}
 use Rattle.laws.proofs.Tests.{by_test, and2, and3, both2, both3, not_both}
 use Rattle.laws.proofs.Integers.{eq_z_yes, eq_z_true, eq_z_false}
@@ -18,6 +18,12 @@ use Rattle.numbers.specs.Numbers.{Named, at, nothing, names, named_or, is_named}
 use Rattle.numbers.specs.Next.{next}
 use Rattle.numbers.proofs.Names.{names_is, names_below, names_at, nothing_not_at}
 use Rattle.rows.specs.Halfedges.{start_of, end_of, pair_of, none, is_empty, is_paired}
+use Rattle.std.specs.Prelude.{Option, Some, None, Result}
+use Rattle.refused.specs.declared.Refusal.{Refusal}
+use Rattle.refused.proofs.Laws.{said_agree}
+use Rattle.numbers.specs.declared.Halfedge.{Halfedge}
+use Rattle.explain.specs.declared.Broken.{Broken}
+use Rattle.explain.specs.declared.Broken.TheVariants as B
 use Rattle.net.specs.declared.Counts.{Counts}
 use Rattle.net.specs.Net.{Net}
 use Rattle.net.specs.Counts.{Shaped}
@@ -25,9 +31,7 @@ use Rattle.net.specs.Sound.{partner, Empty, DeadRow, LiveRow, InOrder}
 use Rattle.net.proofs.Shape.{shaped_true}
 use Rattle.rowtests.specs.Order.{empty3, apart3, differ, mirrors}
 use Rattle.rowtests.proofs.Right.{named_is, is_named_at, empty_yes, is_empty_yes, paired_yes, is_paired_yes, apart_yes, is_apart_yes, dead_yes, is_dead_yes}
-use Rattle.explain.specs.declared.ExplainRow.{ExplainRow}
-use Rattle.explain.specs.declared.ExplainRow.TheVariants as E
-use Rattle.explain.specs.Explain.{clause, explain_said, triangle_clause, partner_clause, row_clause, explain_row}
+use Rattle.explain.specs.Explain.{values_of, clause, explain_said, triangle_clause, partner_clause, row_clause, explain_row}
 use Rattle.explain.specs.Clauses.{Clause, pair_there, pair_back, vertices_there, triangle_paired, joined, mirrored, apart, number, Holds, BreaksFirst}
 
 -- the clause that is said
@@ -256,32 +260,35 @@ pub explain_says : (c : Counts) (n : Net) (h : ℕ) → Shaped c n → h < c.hal
 unfolding explain_row
 explain_says c n h s b = rw (shaped_true c n s, names_at (pos h) c.halfedges h refl b)
 
-answer_of : Said → ExplainRow
-answer_of s =
-    cond (eqb s.number 1) E.Shape
-    (cond (eqb s.number 4) E.Number
-    (cond (eqb (first_value s) 0) E.InOrder
-    (cond (eqb (first_value s) 1) E.NoPartner
-    (cond (eqb (first_value s) 2) (E.NotBack (record { 0 = second_value s }))
-    (cond (eqb (first_value s) 3) E.NoVertex
-    (cond (eqb (first_value s) 4) (E.Unpaired (record { 0 = second_value s }))
-    (cond (eqb (first_value s) 5) (E.NotJoined (record { 0 = second_value s }))
-    (cond (eqb (first_value s) 6) (E.NotMirrored (record { 0 = second_value s }))
-    (cond (eqb (first_value s) 7) E.StartsAlike (E.PartlyDead (record { 0 = second_value s })))))))))))
+-- the clause that some values tell
+broken_of : List Value → Option Broken
+broken_of l =
+    let k = first_value (done l) in
+    let h : Halfedge = record { 0 = second_value (done l) } in
+    cond (eqb k 0) None
+    (cond (eqb k 1) (Some B.NoPartner)
+    (cond (eqb k 2) (Some (B.NotBack h))
+    (cond (eqb k 3) (Some B.NoVertex)
+    (cond (eqb k 4) (Some (B.Unpaired h))
+    (cond (eqb k 5) (Some (B.NotJoined h))
+    (cond (eqb k 6) (Some (B.NotMirrored h))
+    (cond (eqb k 7) (Some B.StartsAlike) (Some (B.PartlyDead h)))))))))
 
-told : (a : ExplainRow) → answer_of (explain_said a) ≡ a
-unfolding answer_of
-told E.InOrder = refl
-told E.NoPartner = refl
-told (E.NotBack p) = refl
-told E.NoVertex = refl
-told (E.Unpaired g) = refl
-told (E.NotJoined g) = refl
-told (E.NotMirrored p) = refl
-told E.StartsAlike = refl
-told (E.PartlyDead g) = refl
-told E.Shape = refl
-told E.Number = refl
+told : (b : Option Broken) → broken_of (values_of b) ≡ b
+unfolding broken_of
+told None = refl
+told (Some B.NoPartner) = refl
+told (Some (B.NotBack p)) = refl
+told (Some B.NoVertex) = refl
+told (Some (B.Unpaired g)) = refl
+told (Some (B.NotJoined g)) = refl
+told (Some (B.NotMirrored p)) = refl
+told (Some B.StartsAlike) = refl
+told (Some (B.PartlyDead g)) = refl
 
-pub explain_agree : (c : Counts) (n : Net) (row : ℤ) (a b : ExplainRow) → explain_said a ≡ explain_row c n row → explain_said b ≡ explain_row c n row → a ≡ b
-explain_agree c n row a b x y = read_back explain_said answer_of told a b (x ∙ sym y)
+pub explain_agree :
+    (c : Counts) (n : Net) (row : ℤ) (a b : Result (Option Broken) Refusal)
+    → explain_said a ≡ explain_row c n row
+    → explain_said b ≡ explain_row c n row
+    → a ≡ b
+explain_agree c n row a b x y = said_agree values_of (λ b c e. sym (told b) ∙ ap broken_of e ∙ told c) a b (x ∙ sym y)

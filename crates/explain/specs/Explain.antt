@@ -4,18 +4,20 @@
 --   2  its partner's pair is another row: the partner    6  its partner's ends are not its own, exchanged: the partner
 --   3  its start or its end is not in 0..V               7  two of its triangle's starts agree
 --   4  another row of its triangle has no pair: that row 8  it is empty, and another row of its triangle is not: that row
-use Rattle.std.specs.Prelude.{cond, ◌&&◌, List, [], ◌∷◌, ℕ, ◌<◌, ℤ, pos}
+use Rattle.std.specs.Prelude.{Option, Some, None, Result, cond, ◌&&◌, List, [], ◌∷◌, ℕ, ◌<◌, ℤ, pos}
 use Rattle.laws.specs.Integers.{eq_z}
-use Rattle.answers.specs.Answers.{Said, whole, done, shape, bad_number}
+use Rattle.answers.specs.Answers.{Said, Value, whole, done, shape, bad_number}
 use Rattle.numbers.specs.Numbers.{names, named_or, is_named, halfedge_number}
 use Rattle.numbers.specs.Next.{next}
 use Rattle.rows.specs.Halfedges.{start_of, end_of, pair_of, is_empty, is_paired, lent_halfedges}
+use Rattle.refused.specs.declared.Refusal.{Refusal}
+use Rattle.refused.specs.Refused.{said}
+use Rattle.explain.specs.declared.Broken.{Broken}
+use Rattle.explain.specs.declared.Broken.TheVariants as B
 use Rattle.net.specs.declared.Counts.{Counts}
 use Rattle.net.specs.Net.{Net}
 use Rattle.net.specs.Counts.{is_shaped}
 use Rattle.rowtests.specs.Order.{empty3, apart3, mirrors}
-use Rattle.explain.specs.declared.ExplainRow.{ExplainRow}
-use Rattle.explain.specs.declared.ExplainRow.TheVariants as E
 
 -- three rows that are lent
 abbrev pub Three : List ℤ → ℕ → ℕ → ℕ → Type 0
@@ -28,18 +30,44 @@ clause k = done (whole (pos k) ∷ [])
 abbrev pub clause_with : ℕ → ℕ → Said
 clause_with k other = done (whole (pos k) ∷ whole (pos other) ∷ [])
 
-abbrev pub explain_said : ExplainRow → Said
-explain_said E.InOrder = clause 0
-explain_said E.NoPartner = clause 1
-explain_said (E.NotBack p) = clause_with 2 (halfedge_number p)
-explain_said E.NoVertex = clause 3
-explain_said (E.Unpaired g) = clause_with 4 (halfedge_number g)
-explain_said (E.NotJoined g) = clause_with 5 (halfedge_number g)
-explain_said (E.NotMirrored p) = clause_with 6 (halfedge_number p)
-explain_said E.StartsAlike = clause 7
-explain_said (E.PartlyDead g) = clause_with 8 (halfedge_number g)
-explain_said E.Shape = shape
-explain_said E.Number = bad_number
+-- the clause that is broken, 0 where none is; the other row, 0 where there is none
+abbrev pub clause_number : Option Broken → ℕ
+clause_number None = 0
+clause_number (Some B.NoPartner) = 1
+clause_number (Some (B.NotBack p)) = 2
+clause_number (Some B.NoVertex) = 3
+clause_number (Some (B.Unpaired g)) = 4
+clause_number (Some (B.NotJoined g)) = 5
+clause_number (Some (B.NotMirrored p)) = 6
+clause_number (Some B.StartsAlike) = 7
+clause_number (Some (B.PartlyDead g)) = 8
+
+abbrev pub other_row : Broken → ℕ
+other_row B.NoPartner = 0
+other_row (B.NotBack p) = halfedge_number p
+other_row B.NoVertex = 0
+other_row (B.Unpaired g) = halfedge_number g
+other_row (B.NotJoined g) = halfedge_number g
+other_row (B.NotMirrored p) = halfedge_number p
+other_row B.StartsAlike = 0
+other_row (B.PartlyDead g) = halfedge_number g
+
+abbrev pub values_of : Option Broken → List Value
+values_of None = whole (pos 0) ∷ []
+values_of (Some B.NoPartner) = whole (pos 1) ∷ []
+values_of (Some (B.NotBack p)) = whole (pos 2) ∷ whole (pos (halfedge_number p)) ∷ []
+values_of (Some B.NoVertex) = whole (pos 3) ∷ []
+values_of (Some (B.Unpaired g)) = whole (pos 4) ∷ whole (pos (halfedge_number g)) ∷ []
+values_of (Some (B.NotJoined g)) = whole (pos 5) ∷ whole (pos (halfedge_number g)) ∷ []
+values_of (Some (B.NotMirrored p)) = whole (pos 6) ∷ whole (pos (halfedge_number p)) ∷ []
+values_of (Some B.StartsAlike) = whole (pos 7) ∷ []
+values_of (Some (B.PartlyDead g)) = whole (pos 8) ∷ whole (pos (halfedge_number g)) ∷ []
+
+abbrev pub clause_said : Option Broken → Said
+clause_said b = done (values_of b)
+
+abbrev pub explain_said : Result (Option Broken) Refusal → Said
+explain_said = said values_of
 
 -- clauses 4 to 7, of row h with partner p; j and k are the other rows of its triangle
 unfoldable pub triangle_clause : List ℤ → ℕ → ℕ → ℕ → ℕ → Said

@@ -1,10 +1,11 @@
 // What explain_row answers, as the struct that a caller in C is told: the number, the clause that the row breaks first (0: none), and the other
 // row that this concerns; 0 for a value that did not come.
-ghost use Rattle.std.specs.Prelude.{◌≡◌};
-ghost use Rattle.explain.specs.Explain.{explain_said};
+ghost use Rattle.std.specs.Prelude.{◌≡◌, Some};
+ghost use Rattle.explain.specs.Explain.{explain_said, clause_number, other_row};
 ghost use Rattle.explain.specs.Answer.{explain_told};
 
-use crate::ExplainRow;
+use crate::Broken;
+use refused::Refusal;
 
 #[repr(C)]
 #[derive(Clone, Copy)]
@@ -14,64 +15,58 @@ pub struct ExplainAnswer {
     pub other: usize,
 }
 
-pub fn of_explain(said: ExplainRow) -> ExplainAnswer
-    ensures { result ≡ explain_told (explain_said said) }
-{
-    match said {
-        ExplainRow::InOrder => ExplainAnswer {
-            number: 0,
-            clause: 0,
-            other: 0,
-        },
-        ExplainRow::NoPartner => ExplainAnswer {
-            number: 0,
-            clause: 1,
-            other: 0,
-        },
-        ExplainRow::NotBack(p) => ExplainAnswer {
-            number: 0,
-            clause: 2,
-            other: p.number(),
-        },
-        ExplainRow::NoVertex => ExplainAnswer {
-            number: 0,
-            clause: 3,
-            other: 0,
-        },
-        ExplainRow::Unpaired(g) => ExplainAnswer {
-            number: 0,
-            clause: 4,
-            other: g.number(),
-        },
-        ExplainRow::NotJoined(g) => ExplainAnswer {
-            number: 0,
-            clause: 5,
-            other: g.number(),
-        },
-        ExplainRow::NotMirrored(p) => ExplainAnswer {
-            number: 0,
-            clause: 6,
-            other: p.number(),
-        },
-        ExplainRow::StartsAlike => ExplainAnswer {
-            number: 0,
-            clause: 7,
-            other: 0,
-        },
-        ExplainRow::PartlyDead(g) => ExplainAnswer {
-            number: 0,
-            clause: 8,
-            other: g.number(),
-        },
-        ExplainRow::Shape => ExplainAnswer {
-            number: 1,
-            clause: 0,
-            other: 0,
-        },
-        ExplainRow::Number => ExplainAnswer {
-            number: 4,
-            clause: 0,
-            other: 0,
-        },
+impl Broken {
+    // The number of the clause.
+    pub fn clause(self) -> u32
+        ensures { result ≡ clause_number (Some self) }
+    {
+        match self {
+            Broken::NoPartner => 1,
+            Broken::NotBack(_) => 2,
+            Broken::NoVertex => 3,
+            Broken::Unpaired(_) => 4,
+            Broken::NotJoined(_) => 5,
+            Broken::NotMirrored(_) => 6,
+            Broken::StartsAlike => 7,
+            Broken::PartlyDead(_) => 8,
+        }
+    }
+
+    // The other row; 0 where there is none.
+    pub fn other(self) -> usize
+        ensures { result ≡ other_row self }
+    {
+        match self {
+            Broken::NotBack(h)
+            | Broken::Unpaired(h)
+            | Broken::NotJoined(h)
+            | Broken::NotMirrored(h)
+            | Broken::PartlyDead(h) => h.number(),
+            Broken::NoPartner | Broken::NoVertex | Broken::StartsAlike => 0,
+        }
+    }
+}
+
+impl From<Result<Option<Broken>, Refusal>> for ExplainAnswer {
+    ghost from_gives = { λ said answer. answer ≡ explain_told (explain_said said) };
+
+    fn from(said: Result<Option<Broken>, Refusal>) -> ExplainAnswer {
+        match said {
+            Ok(None) => ExplainAnswer {
+                number: 0,
+                clause: 0,
+                other: 0,
+            },
+            Ok(Some(broken)) => ExplainAnswer {
+                number: 0,
+                clause: broken.clause(),
+                other: broken.other(),
+            },
+            Err(refusal) => ExplainAnswer {
+                number: refusal.number(),
+                clause: 0,
+                other: 0,
+            },
+        }
     }
 }

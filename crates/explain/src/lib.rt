@@ -9,17 +9,17 @@ ghost use Rattle.rows.specs.Halfedges.{pair_of, lent_halfedges};
 ghost use Rattle.net.specs.Net.{net};
 ghost use Rattle.rowtests.specs.Order.{apart3};
 ghost use Rattle.steps.specs.Steps.{InUse};
-ghost use Rattle.explain.specs.Explain.{Three, explain_said, triangle_clause, partner_clause, row_clause, explain_row};
+ghost use Rattle.explain.specs.Explain.{Three, explain_said, clause_said, triangle_clause, partner_clause, row_clause, explain_row};
 
 use net::Counts;
 use numbers::Halfedge;
+use refused::Refusal;
 
 pub mod answer;
 
-// What explain_row answers: the clause that the row breaks first, with the other row where there is one, or a refusal.
+// The clause that a row breaks first, with the other row where there is one.
 #[derive(Clone, Copy)]
-pub enum ExplainRow {
-    InOrder,
+pub enum Broken {
     NoPartner,
     NotBack(Halfedge),
     NoVertex,
@@ -28,8 +28,6 @@ pub enum ExplainRow {
     NotMirrored(Halfedge),
     StartsAlike,
     PartlyDead(Halfedge),
-    Shape,
-    Number,
 }
 
 // The pair of p is h.
@@ -37,10 +35,7 @@ fn points_back(rows: &[i32], halfedges: usize, p: Halfedge, h: Halfedge) -> bool
     requires { ((halfedge_number p < halfedges) × (halfedge_number h < halfedges)) × InUse halfedges rows.now }
     ensures { result ≡ eq_z (pair_of rows.now (halfedge_number p)) (pos (halfedge_number h)) }
 {
-    match rows::halfedges::pair_of(rows, p, halfedges) {
-        Some(q) => q == h,
-        None => false,
-    }
+    rows::halfedges::pair_of(rows, p, halfedges) == Some(h)
 }
 
 // The three rows start at different vertices.
@@ -54,26 +49,32 @@ fn are_apart(rows: &[i32], h: Halfedge, j: Halfedge, k: Halfedge) -> bool
 }
 
 // Clauses 4 to 7, of h with its partner p; j and k are the other half-edges of its triangle.
-fn triangle_clause(rows: &[i32], h: Halfedge, j: Halfedge, k: Halfedge, p: Halfedge) -> ExplainRow
+fn triangle_clause(
+    rows: &[i32],
+    h: Halfedge,
+    j: Halfedge,
+    k: Halfedge,
+    p: Halfedge,
+) -> Option<Broken>
     requires { ((halfedge_number h < 2 ^ 31) × (halfedge_number p < lent_halfedges rows.now)) × Three rows.now (halfedge_number h) (halfedge_number j) (halfedge_number k) }
-    ensures { explain_said result ≡ triangle_clause rows.now (halfedge_number h) (halfedge_number j) (halfedge_number k) (halfedge_number p) }
+    ensures { clause_said result ≡ triangle_clause rows.now (halfedge_number h) (halfedge_number j) (halfedge_number k) (halfedge_number p) }
 {
     if !edgetests::is_paired(rows, j) {
-        return ExplainRow::Unpaired(j);
+        return Some(Broken::Unpaired(j));
     }
     if !edgetests::is_paired(rows, k) {
-        return ExplainRow::Unpaired(k);
+        return Some(Broken::Unpaired(k));
     }
     if !edgetests::is_joined(rows, h, j) {
-        return ExplainRow::NotJoined(j);
+        return Some(Broken::NotJoined(j));
     }
     if !edgetests::is_mirrored(rows, h, p) {
-        return ExplainRow::NotMirrored(p);
+        return Some(Broken::NotMirrored(p));
     }
     if are_apart(rows, h, j, k) {
-        return ExplainRow::InOrder;
+        return None;
     }
-    ExplainRow::StartsAlike
+    Some(Broken::StartsAlike)
 }
 
 // Clauses 2 and 3 before them.
@@ -85,15 +86,15 @@ fn partner_clause(
     j: Halfedge,
     k: Halfedge,
     p: Halfedge,
-) -> ExplainRow
+) -> Option<Broken>
     requires { ((halfedge_number h < halfedges) × (halfedge_number p < halfedges)) × (InUse halfedges rows.now × Three rows.now (halfedge_number h) (halfedge_number j) (halfedge_number k)) }
-    ensures { explain_said result ≡ partner_clause vertices rows.now (halfedge_number h) (halfedge_number j) (halfedge_number k) (halfedge_number p) }
+    ensures { clause_said result ≡ partner_clause vertices rows.now (halfedge_number h) (halfedge_number j) (halfedge_number k) (halfedge_number p) }
 {
     if !points_back(rows, halfedges, p, h) {
-        return ExplainRow::NotBack(p);
+        return Some(Broken::NotBack(p));
     }
     if !edgetests::is_within(rows, h, vertices) {
-        return ExplainRow::NoVertex;
+        return Some(Broken::NoVertex);
     }
     triangle_clause(rows, h, j, k, p)
 }
@@ -106,28 +107,28 @@ fn row_clause(
     h: Halfedge,
     j: Halfedge,
     k: Halfedge,
-) -> ExplainRow
+) -> Option<Broken>
     requires { (halfedge_number h < halfedges) × (InUse halfedges rows.now × Three rows.now (halfedge_number h) (halfedge_number j) (halfedge_number k)) }
-    ensures { explain_said result ≡ row_clause halfedges vertices rows.now (halfedge_number h) (halfedge_number j) (halfedge_number k) }
+    ensures { clause_said result ≡ row_clause halfedges vertices rows.now (halfedge_number h) (halfedge_number j) (halfedge_number k) }
 {
     let this = edgetests::is_empty(rows, h);
     let next = edgetests::is_empty(rows, j);
     if this & next & edgetests::is_empty(rows, k) {
-        return ExplainRow::InOrder;
+        return None;
     }
     if this {
         if next {
-            return ExplainRow::PartlyDead(k);
+            return Some(Broken::PartlyDead(k));
         }
-        return ExplainRow::PartlyDead(j);
+        return Some(Broken::PartlyDead(j));
     }
     let Some(p) = rows::halfedges::pair_of(rows, h, halfedges) else {
-        return ExplainRow::NoPartner;
+        return Some(Broken::NoPartner);
     };
     partner_clause(rows, halfedges, vertices, h, j, k, p)
 }
 
-// The entry explain_row.
+// The entry explain_row: the clause that the row breaks first, none where it is in order.
 pub fn explain_row(
     counts: Counts,
     halfedges: &[i32],
@@ -136,24 +137,22 @@ pub fn explain_row(
     references: &[i32],
     properties: &[u64],
     row: i32,
-) -> ExplainRow
+) -> Result<Option<Broken>, Refusal>
     ensures { explain_said result ≡ explain_row counts (net halfedges.now positions.now normals.now references.now properties.now) row }
 {
     if !net::shaped(
         counts, halfedges, positions, normals, references, properties,
     ) {
-        return ExplainRow::Shape;
+        return Err(Refusal::Shape);
     }
-    let Some(h) = numbers::halfedge_given(row, counts.halfedges) else {
-        return ExplainRow::Number;
-    };
+    let h = refused::halfedge_given(row, counts.halfedges)?;
     let second = h.next();
-    row_clause(
+    Ok(row_clause(
         halfedges,
         counts.halfedges,
         counts.vertices,
         h,
         second,
         second.next(),
-    )
+    ))
 }

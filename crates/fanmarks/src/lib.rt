@@ -22,21 +22,18 @@ fn mark_fan(rows: &[i32], work: &mut [u8], halfedges: usize, i: Halfedge) -> boo
     ensures { Left halfedges rows.now work.old work.new result
         × (Back halfedges rows.now → FanMarked halfedges rows.now (halfedge_number i) work.old work.new result) }
 {
-    let home = i.number();
     let mut c = i;
-    let mut left = halfedges;
-    while left > 0 {
+    for _ in 0..halfedges {
         let Some(turn) = ownertests::turned(rows, c, halfedges) else {
             return false;
         };
         c = turn;
         let here = c.number();
-        if here == home {
+        if c == i {
             work[here] = OWNER;
             return true;
         }
         work[here] = MET;
-        left -= 1;
     }
     false
 }
@@ -69,13 +66,11 @@ fn mark_fans(rows: &[i32], work: &mut [u8], halfedges: usize, eligible: Eligible
     ensures { Left halfedges rows.now work.old work.new result
         × (Back halfedges rows.now → Scanned eligible halfedges rows.now work.new result) }
 {
-    let mut i = 0;
-    while i < halfedges {
+    for i in 0..halfedges {
         let h = numbers::halfedge_counted(i);
         if !mark_from(rows, work, halfedges, h, eligible) {
             return false;
         }
-        i += 1;
     }
     true
 }
@@ -97,13 +92,11 @@ fn others_back(rows: &[i32], work: &[u8], halfedges: usize) -> bool
     requires { (halfedges ≤ lent_halfedges rows.now) × (halfedges ≤ length work.now) }
     ensures { result ≡ all_below (met_or_back halfedges rows.now work.now) halfedges }
 {
-    let mut i = 0;
-    while i < halfedges {
+    for i in 0..halfedges {
         let h = numbers::halfedge_counted(i);
         if !is_met_or_back(rows, work, h, halfedges) {
             return false;
         }
-        i += 1;
     }
     true
 }

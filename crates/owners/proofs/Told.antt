@@ -1,21 +1,24 @@
 -- What orbit_owners says, in words: 10 exactly when document 01 calls for it, 1 and 2 exactly when they are called for, and where it is
 -- done the list holds the owners. And two results that its contract allows agree.
 use mathlib.Core.Path.{◌≡◌, refl, sym, ap, ◌∙◌, subst}
-use mathlib.Core.Bool.{true, cond}
+use mathlib.Core.Bool.{true}
 use mathlib.Core.List.{List, [], ◌∷◌}
 use mathlib.Core.Logic.{◌⊎◌, inl, inr, ◌↔◌}
 use Prim.Native.Nat.{ℕ, ◌≤◌, ◌<◌}
 use native.Mathlib.Omega.{arith}
 use native.Mathlib.Decide.{dec_lt, dec_le}
 use borrow.Author.Tests.{leb-true, le-leb}
-use lib.Dec.{eqb, leb}
+use lib.Dec.{leb}
 use lib.IntN.{ℤ, pos}
 use lib.ListN.{length, take, drop}
 use lib.Seq.{take_at, drop_at}
 use Rattle.answers.specs.Answers.{Said, whole, done, shape, short_buffer, no_owners}
-use Rattle.answers.proofs.Laws.{numbers_differ, first_value, read_back}
+use Rattle.answers.proofs.Laws.{numbers_differ}
 use Rattle.laws.proofs.Tests.{by_test, and2, both2, not_both}
 use Rattle.laws.specs.Stretches.{cleared}
+use Rattle.std.specs.Prelude.{Result}
+use Rattle.refused.specs.declared.Refusal.{Refusal}
+use Rattle.refused.proofs.Laws.{count_agree}
 use Rattle.net.specs.declared.Counts.{Counts}
 use Rattle.net.specs.Net.{Net}
 use Rattle.net.specs.Counts.{Shaped, is_shaped}
@@ -26,8 +29,6 @@ use Rattle.turning.proofs.Least.{Least, None, least}
 use Rattle.turning.proofs.Occ.{count_length}
 use Rattle.turning.proofs.Orbit.{reach_refl, reach_trans, reach_dec}
 use Rattle.ownertests.specs.declared.Eligible.{Eligible}
-use Rattle.owners.specs.declared.Owners.{Owners}
-use Rattle.owners.specs.declared.Owners.TheVariants as O
 use Rattle.ownertests.specs.Words.{IsEligible, NoOwners, Owner, IsList}
 use Rattle.ownertests.specs.Tests.{eligible, owns, has_owners, owners}
 use Rattle.ownertests.specs.inner.Needs.{InUse}
@@ -206,21 +207,9 @@ module _ (e : Eligible) (c : Counts) (n : Net) (work list : List ℕ) where
 
 -- ---- two results agree
 -- the answer, read back from what is said
-abbrev answer_of : Said → Owners
-answer_of s =
-    cond (eqb s.number 0) (O.Done (first_value s))
-    (cond (eqb s.number 1) O.Shape
-    (cond (eqb s.number 2) O.ShortBuffer O.NoOwners))
-
-told : (a : Owners) → answer_of (owners_said a) ≡ a
-told (O.Done count) = refl
-told O.Shape = refl
-told O.ShortBuffer = refl
-told O.NoOwners = refl
-
-pub owners_agree : (e : Eligible) (c : Counts) (n : Net) (work list : List ℕ) (a b : Owners) (w w' l l' : List ℕ)
+abbrev pub owners_agree : (e : Eligible) (c : Counts) (n : Net) (work list : List ℕ) (a b : Result ℕ Refusal) (w w' l l' : List ℕ)
     → owners_outcome (owners_said a) w l ≡ orbit_owners e c n work list → owners_outcome (owners_said b) w' l' ≡ orbit_owners e c n work list
     → (a ≡ b) × (w ≡ w') × (l ≡ l')
 owners_agree e c n work list a b w w' l l' p q =
     let z = p ∙ sym q in
-    (read_back owners_said answer_of told a b (ap (λ (x : OwnersOutcome). x.said) z), ap (λ (x : OwnersOutcome). x.work) z, ap (λ (x : OwnersOutcome). x.list) z)
+    (count_agree a b (ap (λ (x : OwnersOutcome). x.said) z), ap (λ (x : OwnersOutcome). x.work) z, ap (λ (x : OwnersOutcome). x.list) z)

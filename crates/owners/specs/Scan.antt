@@ -1,13 +1,13 @@
 -- The entry orbit_owners for every input: what it says, and the work buffer and the list afterwards.
-use Rattle.std.specs.Prelude.{Bool, cond, ◌&&◌, List, [], ◌∷◌, ◌++◌, ℕ, ℤ, pos, length, drop}
+use Rattle.std.specs.Prelude.{Result, Bool, cond, ◌&&◌, List, [], ◌∷◌, ◌++◌, ℕ, ℤ, pos, length, drop}
 use Rattle.answers.specs.Answers.{Said, whole, done, shape, short_buffer, no_owners}
 use Rattle.laws.specs.Stretches.{cleared}
+use Rattle.refused.specs.declared.Refusal.{Refusal}
+use Rattle.refused.specs.Refused.{count_said}
 use Rattle.net.specs.declared.Counts.{Counts}
 use Rattle.net.specs.Net.{Net}
 use Rattle.net.specs.Counts.{is_shaped, is_long}
 use Rattle.ownertests.specs.declared.Eligible.{Eligible}
-use Rattle.owners.specs.declared.Owners.{Owners}
-use Rattle.owners.specs.declared.Owners.TheVariants as O
 use Rattle.ownertests.specs.Tests.{has_owners, owners}
 
 -- what is said, and what the two lent lists hold then
@@ -40,8 +40,5 @@ orbit_owners e c n work list =
     (cond (buffers_long c.halfedges work list) (scan e c.halfedges n.halfedges work list) (owners_outcome short_buffer work list))
     (owners_outcome shape work list)
 
-abbrev pub owners_said : Owners → Said
-owners_said (O.Done count) = done (whole (pos count) ∷ [])
-owners_said O.Shape = shape
-owners_said O.ShortBuffer = short_buffer
-owners_said O.NoOwners = no_owners
+abbrev pub owners_said : Result ℕ Refusal → Said
+owners_said = count_said

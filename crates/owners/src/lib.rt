@@ -12,15 +12,7 @@ ghost use Rattle.owners.specs.Scan.{owners_outcome, listed, scan, orbit_owners, 
 use fanmarks::OWNER;
 use net::Counts;
 use ownertests::Eligible;
-
-// What orbit_owners answers: how many are listed; or a shape that does not fit, a buffer too short, no owners.
-#[derive(Clone, Copy)]
-pub enum Owners {
-    Done(usize),
-    Shape,
-    ShortBuffer,
-    NoOwners,
-}
+use refused::Refusal;
 
 // Lists the half-edges that are marked as owners, rising. How many they are.
 fn list_owners(work: &[u8], list: &mut [u32], halfedges: usize) -> usize
@@ -29,13 +21,11 @@ fn list_owners(work: &[u8], list: &mut [u32], halfedges: usize) -> usize
         × (result ≡ length (those_below (λ (g : ℕ). eqb (get_or work.now g 0) 2) halfedges)) }
 {
     let mut count = 0;
-    let mut i = 0;
-    while i < halfedges {
+    for i in 0..halfedges {
         if work[i] == OWNER {
             list[count] = i as u32;
             count += 1;
         }
-        i += 1;
     }
     count
 }
@@ -47,21 +37,21 @@ fn find_owners(
     list: &mut [u32],
     halfedges: usize,
     eligible: Eligible,
-) -> Owners
+) -> Result<usize, Refusal>
     requires { InUse halfedges rows.now × ((halfedges ≤ length work.old) × (halfedges ≤ length list.old)) }
     ensures { owners_outcome (owners_said result) work.new list.new ≡ scan eligible halfedges rows.now work.old list.old }
 {
     stretches::fill(work, 0, 0, halfedges);
     if !fanmarks::has_owners(rows, work, halfedges, eligible) {
         stretches::fill(work, 0, 0, halfedges);
-        return Owners::NoOwners;
+        return Err(Refusal::NoOwners);
     }
     let count = list_owners(work, list, halfedges);
     stretches::fill(work, 0, 0, halfedges);
-    Owners::Done(count)
+    Ok(count)
 }
 
-// The entry orbit_owners.
+// The entry orbit_owners: how many are listed.
 pub fn orbit_owners(
     counts: Counts,
     halfedges: &[i32],
@@ -72,18 +62,18 @@ pub fn orbit_owners(
     work: &mut [u8],
     list: &mut [u32],
     eligible: Eligible,
-) -> Owners
+) -> Result<usize, Refusal>
     ensures { owners_outcome (owners_said result) work.new list.new ≡ orbit_owners eligible counts (net halfedges.now positions.now normals.now references.now properties.now) work.old list.old }
 {
     if !net::shaped(
         counts, halfedges, positions, normals, references, properties,
     ) {
-        return Owners::Shape;
+        return Err(Refusal::Shape);
     }
     if !(net::long_enough(work.len(), counts.halfedges)
         & net::long_enough(list.len(), counts.halfedges))
     {
-        return Owners::ShortBuffer;
+        return Err(Refusal::ShortBuffer);
     }
     find_owners(halfedges, work, list, counts.halfedges, eligible)
 }

@@ -34,10 +34,7 @@ fn is_pair(rows: &[i32], p: Halfedge, h: Halfedge, halfedges: usize) -> bool
     requires { halfedge_number p < lent_halfedges rows.now }
     ensures { result ≡ is_back (halfedge_number h) (names (pair_of rows.now (halfedge_number p)) halfedges) }
 {
-    match rows::halfedges::pair_of(rows, p, halfedges) {
-        Some(q) => q == h,
-        None => false,
-    }
+    rows::halfedges::pair_of(rows, p, halfedges) == Some(h)
 }
 
 // The pair of h is below 0, or is there and points back.

@@ -89,15 +89,14 @@ fn live_run(rows: &[i32], from: usize, halfedges: usize, vertices: usize) -> usi
     requires { RowsAt halfedges rows.now from }
     ensures { (RowsAt halfedges rows.now result) × (from ≤ result) × (PassedFrom halfedges vertices rows.now from result) }
 {
-    let mut t = from;
-    while t < halfedges {
+    for k in from / 3..halfedges / 3 {
+        let t = 3 * k;
         let tri = rows::halfedges::from_row(rows, numbers::halfedge_counted(t));
         if !is_live_triangle(tri, rows, t, halfedges, vertices) {
             return t;
         }
-        t += 3;
     }
-    t
+    halfedges
 }
 
 // Every row is in order. Where it says no, nothing is known: then the search decides.

@@ -3,16 +3,10 @@
 #![tactic(auto)]
 
 ghost use Rattle.std.specs.Prelude.{◌≡◌};
-ghost use Rattle.soundness.specs.Check.{check_said};
-ghost use Rattle.updatevert.specs.UpdateVert.{update_said};
-ghost use Rattle.collapsetri.specs.CollapseTri.{collapse_said};
-ghost use Rattle.removefolded.specs.RemoveIfFolded.{remove_said};
+ghost use Rattle.refused.specs.Refused.{plain_said};
 ghost use Rattle.rowtold.specs.Told.{row_told, update_told};
 
-use collapsetri::CollapseTri;
-use removefolded::RemoveIfFolded;
-use soundness::Checked;
-use updatevert::UpdateVert;
+use refused::Refusal;
 
 #[repr(C)]
 #[derive(Clone, Copy)]
@@ -29,61 +23,30 @@ pub struct UpdateAnswer {
     pub row: usize,
 }
 
-pub fn of_check(said: Checked) -> RowAnswer
-    ensures { result ≡ row_told (check_said said) }
-{
-    match said {
-        Checked::Sound => RowAnswer { number: 0, row: 0 },
-        Checked::Shape => RowAnswer { number: 1, row: 0 },
-        Checked::Unsound(h) => RowAnswer {
-            number: 3,
-            row: h.number(),
-        },
+impl From<Result<(), Refusal>> for RowAnswer {
+    ghost from_gives = { λ said answer. answer ≡ row_told (plain_said said) };
+
+    fn from(said: Result<(), Refusal>) -> RowAnswer {
+        match said {
+            Ok(()) => RowAnswer { number: 0, row: 0 },
+            Err(refusal) => RowAnswer {
+                number: refusal.number(),
+                row: refusal.row(),
+            },
+        }
     }
 }
 
-pub fn of_update(said: UpdateVert) -> UpdateAnswer
-    ensures { result ≡ update_told (update_said said) }
-{
-    match said {
-        UpdateVert::Done => UpdateAnswer { number: 0, row: 0 },
-        UpdateVert::Shape => UpdateAnswer { number: 1, row: 0 },
-        UpdateVert::Unsound(h) => UpdateAnswer {
-            number: 3,
-            row: h.number(),
-        },
-        UpdateVert::Number => UpdateAnswer { number: 4, row: 0 },
-        UpdateVert::Dead => UpdateAnswer { number: 5, row: 0 },
-        UpdateVert::Stopped => UpdateAnswer { number: 7, row: 0 },
-    }
-}
+impl From<Result<(), Refusal>> for UpdateAnswer {
+    ghost from_gives = { λ said answer. answer ≡ update_told (plain_said said) };
 
-pub fn of_collapse(said: CollapseTri) -> RowAnswer
-    ensures { result ≡ row_told (collapse_said said) }
-{
-    match said {
-        CollapseTri::Done => RowAnswer { number: 0, row: 0 },
-        CollapseTri::Shape => RowAnswer { number: 1, row: 0 },
-        CollapseTri::Unsound(h) => RowAnswer {
-            number: 3,
-            row: h.number(),
-        },
-        CollapseTri::Number => RowAnswer { number: 4, row: 0 },
-        CollapseTri::Dead => RowAnswer { number: 5, row: 0 },
-    }
-}
-
-pub fn of_remove(said: RemoveIfFolded) -> RowAnswer
-    ensures { result ≡ row_told (remove_said said) }
-{
-    match said {
-        RemoveIfFolded::Done => RowAnswer { number: 0, row: 0 },
-        RemoveIfFolded::Shape => RowAnswer { number: 1, row: 0 },
-        RemoveIfFolded::Unsound(h) => RowAnswer {
-            number: 3,
-            row: h.number(),
-        },
-        RemoveIfFolded::Number => RowAnswer { number: 4, row: 0 },
-        RemoveIfFolded::Dead => RowAnswer { number: 5, row: 0 },
+    fn from(said: Result<(), Refusal>) -> UpdateAnswer {
+        match said {
+            Ok(()) => UpdateAnswer { number: 0, row: 0 },
+            Err(refusal) => UpdateAnswer {
+                number: refusal.number(),
+                row: refusal.row(),
+            },
+        }
     }
 }

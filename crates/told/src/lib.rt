@@ -9,10 +9,9 @@ ghost use Rattle.floats.specs.Short.{length_said};
 ghost use Rattle.pairing.specs.Pairing.{pair_said};
 ghost use Rattle.told.specs.Told.{counts_of, vector_of, eligible_of, told, next_told, tri_told, length_told};
 
-use floats::{Length, Vec3};
-use numbers::{Next, Tri};
+use floats::Vec3;
 use ownertests::Eligible;
-use pairing::PairUp;
+use refused::Refusal;
 
 // How many rows of each array are in use, and how many numbers a property row has.
 #[repr(C)]
@@ -65,26 +64,30 @@ pub struct LengthAnswer {
     pub limit: u64,
 }
 
-pub fn counts_of(used: Used) -> net::Counts
-    ensures { result ≡ counts_of used }
-{
-    net::Counts {
-        halfedges: used.halfedges,
-        vertices: used.vertices,
-        normals: used.normals,
-        references: used.references,
-        properties: used.properties,
-        num_prop: used.num_prop,
+impl From<Used> for net::Counts {
+    ghost from_gives = { λ used counts. counts ≡ counts_of used };
+
+    fn from(used: Used) -> net::Counts {
+        net::Counts {
+            halfedges: used.halfedges,
+            vertices: used.vertices,
+            normals: used.normals,
+            references: used.references,
+            properties: used.properties,
+            num_prop: used.num_prop,
+        }
     }
 }
 
-pub fn vector_of(point: Point) -> Vec3
-    ensures { result ≡ vector_of point }
-{
-    Vec3 {
-        x: point.x,
-        y: point.y,
-        z: point.z,
+impl From<Point> for Vec3 {
+    ghost from_gives = { λ point vector. vector ≡ vector_of point };
+
+    fn from(point: Point) -> Vec3 {
+        Vec3 {
+            x: point.x,
+            y: point.y,
+            z: point.z,
+        }
     }
 }
 
@@ -97,57 +100,71 @@ pub fn eligible_of(end_too: bool) -> Eligible
     Eligible::Start
 }
 
-pub fn of_next(said: Next) -> NextAnswer
-    ensures { result ≡ next_told (next_said said) }
-{
-    match said {
-        Next::To(next) => NextAnswer { number: 0, next },
-        Next::Number => NextAnswer { number: 4, next: 0 },
+impl From<Option<i32>> for NextAnswer {
+    ghost from_gives = { λ said answer. answer ≡ next_told (next_said said) };
+
+    fn from(said: Option<i32>) -> NextAnswer {
+        match said {
+            Some(next) => NextAnswer { number: 0, next },
+            None => NextAnswer { number: 4, next: 0 },
+        }
     }
 }
 
-pub fn of_tri(said: Tri) -> TriAnswer
-    ensures { result ≡ tri_told (tri_said said) }
-{
-    match said {
-        Tri::Of(first, second, third) => TriAnswer {
-            number: 0,
-            first,
-            second,
-            third,
-        },
-        Tri::Number => TriAnswer {
-            number: 4,
-            first: 0,
-            second: 0,
-            third: 0,
-        },
+impl From<Option<(i32, i32, i32)>> for TriAnswer {
+    ghost from_gives = { λ said answer. answer ≡ tri_told (tri_said said) };
+
+    fn from(said: Option<(i32, i32, i32)>) -> TriAnswer {
+        match said {
+            Some((first, second, third)) => TriAnswer {
+                number: 0,
+                first,
+                second,
+                third,
+            },
+            None => TriAnswer {
+                number: 4,
+                first: 0,
+                second: 0,
+                third: 0,
+            },
+        }
     }
 }
 
-pub fn of_length(said: Length) -> LengthAnswer
-    ensures { result ≡ length_told (length_said said) }
-{
-    match said {
-        Length::Short => LengthAnswer {
-            number: 0,
-            squared_length: 0,
-            limit: 0,
-        },
-        Length::Long(squared_length, limit) => LengthAnswer {
-            number: 8,
-            squared_length: floats::bits_of(squared_length),
-            limit: floats::bits_of(limit),
-        },
+impl From<Result<(), Refusal>> for LengthAnswer {
+    ghost from_gives = { λ said answer. answer ≡ length_told (length_said said) };
+
+    fn from(said: Result<(), Refusal>) -> LengthAnswer {
+        match said {
+            Ok(()) => LengthAnswer {
+                number: 0,
+                squared_length: 0,
+                limit: 0,
+            },
+            Err(Refusal::Long(squared_length, limit)) => LengthAnswer {
+                number: 8,
+                squared_length: floats::bits_of(squared_length),
+                limit: floats::bits_of(limit),
+            },
+            Err(refusal) => LengthAnswer {
+                number: refusal.number(),
+                squared_length: 0,
+                limit: 0,
+            },
+        }
     }
 }
 
-pub fn of_pair(said: PairUp) -> Answer
-    ensures { result ≡ told (pair_said said) }
-{
-    match said {
-        PairUp::Done => Answer { number: 0 },
-        PairUp::Shape => Answer { number: 1 },
-        PairUp::Number => Answer { number: 4 },
+impl From<Result<(), Refusal>> for Answer {
+    ghost from_gives = { λ said answer. answer ≡ told (pair_said said) };
+
+    fn from(said: Result<(), Refusal>) -> Answer {
+        match said {
+            Ok(()) => Answer { number: 0 },
+            Err(refusal) => Answer {
+                number: refusal.number(),
+            },
+        }
     }
 }

@@ -20,12 +20,6 @@ returns-then-not-mark_from c =
     let f = c.if-not-mark_from.true in
     (left_on c.loop-i.invariant.0 (rw f at s.0), λ B. scanning_stops a.eligible a.halfedges a.rows.now B (c.loop-i.invariant.1 B) c.loop-i-test.true (s.1 B) f)
 
-pub overflow_add-i : goal.overflow_add-i
-overflow_add-i c = omega arith
-
-pub loop-i-smaller : goal.loop-i-smaller
-loop-i-smaller c = omega arith
-
 pub loop-i-preserved : goal.loop-i-preserved
 loop-i-preserved c =
     let a = c.args in

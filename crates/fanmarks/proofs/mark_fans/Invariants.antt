@@ -1,6 +1,5 @@
 -- `fanmarks::mark_fans` meets its contract, by the laws of the scan.
 use mathlib.Core.Bool.{true}
-use Prim.Native.Nat.{◌-◌}
 use Rattle.ownertests.specs.inner.Needs.{Back}
 use Rattle.fanmarks.specs.inner.Marks.{Left}
 use Rattle.fanmarks.proofs.Scanning.{Scanning}
@@ -9,6 +8,3 @@ use Rattle.fanmarks.proofs.mark_fans.Given as goal
 abbrev pub invariant-loop-i : goal.invariant-loop-i
 invariant-loop-i l =
     Left l.halfedges l.rows l.initial.work l.work true × (Back l.halfedges l.rows → Scanning l.eligible l.halfedges l.rows l.work l.i)
-
-abbrev pub decreases-loop-i : goal.decreases-loop-i
-decreases-loop-i l = l.halfedges - l.i

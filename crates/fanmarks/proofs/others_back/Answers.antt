@@ -16,12 +16,6 @@ returns-then-not-is_met_or_back c =
     let a = c.args in
     sym (all_stop (met_or_back a.halfedges a.rows.now a.work.now) a.halfedges c.loop-i.i c.loop-i-test.true (rw (c.halfedge_counted-h.ensures, c.if-not-is_met_or_back.true) at (sym c.is_met_or_back.ensures)))
 
-pub overflow_add-i : goal.overflow_add-i
-overflow_add-i c = omega arith
-
-pub loop-i-smaller : goal.loop-i-smaller
-loop-i-smaller c = omega arith
-
 pub loop-i-preserved : goal.loop-i-preserved
 loop-i-preserved c =
     let a = c.args in

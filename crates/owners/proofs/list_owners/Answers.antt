@@ -23,12 +23,6 @@ bounds-list-count c = omega (arith, listing_fits c.loop-i.invariant, c.loop-i.in
 pub overflow_add-count : goal.overflow_add-count
 overflow_add-count c = omega (arith, listing_fits c.loop-i.invariant)
 
-pub overflow_add-i : goal.overflow_add-i
-overflow_add-i c = omega arith
-
-pub loop-i-smaller : goal.loop-i-smaller
-loop-i-smaller c = omega arith
-
 pub loop-i-preserved : goal.loop-i-preserved
 loop-i-preserved c =
     elim c.if-work-i-eq-OWNER.branch [

@@ -1,5 +1,4 @@
 -- `owners::list_owners` meets its contract, by the laws of a loop that lists.
-use Prim.Native.Nat.{◌-◌}
 use lib.Dec.{eqb}
 use lib.ListN.{get_or}
 use Rattle.owners.proofs.Listing.{Listing}
@@ -7,6 +6,3 @@ use Rattle.owners.proofs.list_owners.Given as goal
 
 abbrev pub invariant-loop-i : goal.invariant-loop-i
 invariant-loop-i l = Listing (λ g. eqb (get_or l.work g 0) 2) l.halfedges l.initial.list l.list l.count l.i
-
-abbrev pub decreases-loop-i : goal.decreases-loop-i
-decreases-loop-i l = l.halfedges - l.i
