@@ -7,10 +7,10 @@ use Prim.Native.Nat.{ℕ, ◌+◌, ◌-◌, ◌/◌}
 use native.Mathlib.Nat.{add-zero}
 use native.Mathlib.Omega.{arith}
 use borrow.Author.Tests.{le-leb}
-use lib.Dec.{eqb}
 use lib.IntN.{ℤ, pos}
-use Rattle.answers.specs.Answers.{Said, whole, done}
-use Rattle.answers.proofs.Laws.{first_value, second_value, read_back}
+use Rattle.answers.specs.Answers.{whole, done}
+use Rattle.std.specs.Prelude.{Result}
+use Rattle.refused.specs.declared.Refusal.{Refusal}
 use Rattle.laws.specs.Stretches.{cleared}
 use Rattle.numbers.specs.Numbers.{nothing}
 use Rattle.rows.specs.Halfedges.{zero_rows, over_rows}
@@ -27,8 +27,8 @@ use Rattle.settling.specs.Settling.{limits_of}
 use Rattle.rounds.specs.Rounds.{rounds}
 use Rattle.dedupeedges.specs.DedupeEdges.{Left, left, lent_enough}
 use Rattle.dedupeedges.proofs.Told.{same_left}
-use Rattle.cleanup.specs.declared.CleanupTopology.{CleanupTopology}
-use Rattle.cleanup.specs.declared.CleanupTopology.TheVariants as C
+use Rattle.settling.specs.declared.Extent.{Extent}
+use Rattle.settling.proofs.Extents.{extent_agree}
 use Rattle.cleanup.specs.Cleanup.{cleanup_said, after_split, clean_at, cleanup_topology}
 
 -- 6 or 7: of every array only the free rows that the steps had filled are changed: they read zero
@@ -72,25 +72,8 @@ cleanup_empty c n spare_halfedges spare_positions work list z s e =
     rw (s, e, none_out (in_order c.halfedges c.vertices n.halfedges) c.halfedges z)
     (none_done (limits_of c n) c.vertices n.halfedges n.positions n.normals n.references spare_halfedges spare_positions work list c.halfedges z)
 
--- the answer, read back from what is said
-abbrev answer_of : Said → CleanupTopology
-answer_of s =
-    cond (eqb s.number 0) (C.Done (first_value s) (second_value s))
-    (cond (eqb s.number 1) C.Shape
-    (cond (eqb s.number 2) C.ShortBuffer
-    (cond (eqb s.number 3) (C.Unsound (record { 0 = first_value s }))
-    (cond (eqb s.number 6) C.NoRoom C.Stopped))))
-
-told : (a : CleanupTopology) → answer_of (cleanup_said a) ≡ a
-told (C.Done halfedges vertices) = refl
-told C.Shape = refl
-told C.ShortBuffer = refl
-told (C.Unsound h) = refl
-told C.NoRoom = refl
-told C.Stopped = refl
-
-pub cleanup_agree : (c : Counts) (n : Net) (spare_halfedges : List ℤ) (spare_positions work list : List ℕ) (a b : CleanupTopology) (h h' : List ℤ) (p p' f f' : List ℕ) (r r' s s' : List ℤ) (q q' w w' l l' : List ℕ) →
+pub cleanup_agree : (c : Counts) (n : Net) (spare_halfedges : List ℤ) (spare_positions work list : List ℕ) (a b : Result Extent Refusal) (h h' : List ℤ) (p p' f f' : List ℕ) (r r' s s' : List ℤ) (q q' w w' l l' : List ℕ) →
     left (cleanup_said a) h p f r s q w l ≡ cleanup_topology c n spare_halfedges spare_positions work list → left (cleanup_said b) h' p' f' r' s' q' w' l' ≡ cleanup_topology c n spare_halfedges spare_positions work list →
     (a ≡ b) × ((h ≡ h') × ((p ≡ p') × ((f ≡ f') × ((r ≡ r') × ((s ≡ s') × ((q ≡ q') × ((w ≡ w') × (l ≡ l'))))))))
 cleanup_agree c n spare_halfedges spare_positions work list a b h h' p p' f f' r r' s s' q q' w w' l l' x y =
-    let e = same_left (x ∙ sym y) in (read_back cleanup_said answer_of told a b e.0, e.1)
+    let e = same_left (x ∙ sym y) in (extent_agree a b e.0, e.1)

@@ -1,14 +1,14 @@
 -- The entry cleanup_topology: split, then the rounds of dedupe_edges, with one check of soundness and one spare, taken before the split.
 -- Answers 1, 2, 3, then 6 or 7, whichever the steps meet first; 0 with the half-edges and vertices in use.
-use Rattle.std.specs.Prelude.{cond, List, [], ◌∷◌, ℕ, ◌+◌, eqb, ℤ, pos}
-use Rattle.answers.specs.Answers.{Said, value, counted, whole, done, shape, short_buffer, unsound, no_room, stopped}
+use Rattle.std.specs.Prelude.{cond, List, ℕ, ◌+◌, eqb, ℤ, Result}
+use Rattle.answers.specs.Answers.{Said, value, counted, shape, short_buffer}
 use Rattle.laws.specs.Stretches.{cleared}
-use Rattle.numbers.specs.Numbers.{halfedge_number}
 use Rattle.rows.specs.Halfedges.{over_rows}
 use Rattle.rows.specs.Triples.{over_triples}
 use Rattle.net.specs.declared.Counts.{Counts}
 use Rattle.net.specs.Net.{Net}
 use Rattle.net.specs.Counts.{is_shaped}
+use Rattle.refused.specs.declared.Refusal.{Refusal}
 use Rattle.soundness.specs.Check.{sound_or}
 use Rattle.rowtests.specs.Order.{least_out}
 use Rattle.splitting.specs.Split.{SplitOutcome, split_sound}
@@ -17,19 +17,13 @@ use Rattle.steps.specs.Steps.{middle, begun_run, ended_run, NoRoom}
 use Rattle.steps.specs.Entries.{past}
 use Rattle.growth.specs.declared.Limits.{Limits}
 use Rattle.growth.specs.Growth.{Growing, growing, settled}
-use Rattle.settling.specs.Settling.{limits_of}
+use Rattle.settling.specs.Settling.{limits_of, extent_said}
 use Rattle.rounds.specs.Rounds.{rounds}
 use Rattle.dedupeedges.specs.DedupeEdges.{Left, left_by, as_lent, lent_enough}
-use Rattle.cleanup.specs.declared.CleanupTopology.{CleanupTopology}
-use Rattle.cleanup.specs.declared.CleanupTopology.TheVariants as C
+use Rattle.settling.specs.declared.Extent.{Extent}
 
-abbrev pub cleanup_said : CleanupTopology → Said
-cleanup_said (C.Done halfedges vertices) = done (whole (pos halfedges) ∷ whole (pos vertices) ∷ [])
-cleanup_said C.Shape = shape
-cleanup_said C.ShortBuffer = short_buffer
-cleanup_said (C.Unsound h) = unsound (halfedge_number h)
-cleanup_said C.NoRoom = no_room
-cleanup_said C.Stopped = stopped
+abbrev pub cleanup_said : Result Extent Refusal → Said
+cleanup_said = extent_said
 
 -- how splitting went, by what it says: so many vertices more are in use; or a copy found no room, and the free vertex rows had been filled
 abbrev pub split_run : ℕ → ℕ → Said → Run

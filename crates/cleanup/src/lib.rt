@@ -8,53 +8,25 @@ ghost use Rattle.net.specs.Counts.{most_vertices, vertex_capacity_over};
 ghost use Rattle.splitting.specs.inner.Needs.{SoundRows};
 ghost use Rattle.splitcleared.specs.Answer.{split_said};
 ghost use Rattle.growth.specs.Growth.{Fitting};
-ghost use Rattle.settling.specs.Settling.{begun, said_of_grown};
+ghost use Rattle.settling.specs.Settling.{begun};
 ghost use Rattle.dedupeedges.specs.DedupeEdges.{left, Enough};
 ghost use Rattle.cleanup.specs.Cleanup.{cleanup_said, split_run, clean_at, cleanup_topology};
 
 use growth::{Grown, Limits};
 use net::Counts;
-use numbers::Halfedge;
-use splitcleared::Split;
-use steps::{How, Run};
-
-// What cleanup_topology answers: on Done the half-edges and vertices in use afterwards.
-#[derive(Clone, Copy)]
-pub enum CleanupTopology {
-    Done(usize, usize),
-    Shape,
-    ShortBuffer,
-    Unsound(Halfedge),
-    NoRoom,
-    Stopped,
-}
-
-// How the steps ended, as the entry says it.
-fn answer(grown: Grown) -> CleanupTopology
-    ensures { cleanup_said result ≡ said_of_grown grown }
-{
-    let run = grown.run;
-    let how = run.how;
-    match how {
-        How::Going => CleanupTopology::Done(grown.halfedges, run.vertices),
-        How::NoRoom => CleanupTopology::NoRoom,
-        How::Stopped => CleanupTopology::Stopped,
-    }
-}
+use refused::Refusal;
+use settling::Extent;
+use splitting::Visited;
+use steps::Run;
 
 // How splitting went: so many vertices more are in use, or there was no room for a copy.
-fn after_split(said: Split, vertices: usize, capacity: usize) -> Run
+fn after_split(said: Result<Visited, Refusal>, vertices: usize, capacity: usize) -> Run
     requires { (split_run vertices capacity (split_said said)).vertices ≤ most_vertices }
     ensures { result ≡ split_run vertices capacity (split_said said) }
 {
-    let full = steps::no_room(steps::begun(capacity));
     match said {
-        Split::Done(added, _) => steps::begun(vertices + added),
-        Split::Shape => full,
-        Split::ShortBuffer => full,
-        Split::Unsound(_) => full,
-        Split::OpenFan => full,
-        Split::NoRoom => full,
+        Ok(split) => steps::begun(vertices + split.added),
+        Err(_) => steps::no_room(steps::begun(capacity)),
     }
 }
 
@@ -72,7 +44,7 @@ fn clean_at(
     limits: Limits,
     halfedges: usize,
     vertices: usize,
-) -> CleanupTopology
+) -> Result<Extent, Refusal>
     requires { (SoundRows halfedges vertices rows.old × (limits.vertices ≡ vertex_capacity_over positions.old)) × (Fitting limits (begun halfedges vertices rows.old positions.old normals.old references.old) × Enough limits halfedges vertices (limits.halfedges + vertices) spare_halfedges.old spare_positions.old work.old list.old) }
     ensures { left (cleanup_said result) rows.new positions.new normals.new references.new spare_halfedges.new spare_positions.new work.new list.new ≡ clean_at limits halfedges vertices rows.old positions.old normals.old references.old spare_halfedges.old spare_positions.old work.old list.old }
 {
@@ -98,10 +70,10 @@ fn clean_at(
         limits.halfedges + vertices,
         split,
     );
-    answer(grown)
+    settling::answer(grown)
 }
 
-// The entry cleanup_topology.
+// The entry cleanup_topology: on Ok the half-edges and vertices in use afterwards.
 pub fn cleanup_topology(
     counts: Counts,
     halfedges: &mut [i32],
@@ -113,13 +85,13 @@ pub fn cleanup_topology(
     spare_positions: &mut [u64],
     work: &mut [u32],
     list: &mut [u32],
-) -> CleanupTopology
+) -> Result<Extent, Refusal>
     ensures { left (cleanup_said result) halfedges.new positions.new normals.new references.new spare_halfedges.new spare_positions.new work.new list.new ≡ cleanup_topology counts (net halfedges.old positions.old normals.old references.old properties.now) spare_halfedges.old spare_positions.old work.old list.old }
 {
     if !net::shaped(
         counts, halfedges, positions, normals, references, properties,
     ) {
-        return CleanupTopology::Shape;
+        return Err(Refusal::Shape);
     }
     let limits = settling::limits_of(counts, halfedges, positions, normals, references);
     let capacity = limits.halfedges;
@@ -132,22 +104,20 @@ pub fn cleanup_topology(
         capacity,
         capacity + counts.vertices,
     ) {
-        return CleanupTopology::ShortBuffer;
+        return Err(Refusal::ShortBuffer);
     }
-    match soundness::first_out(halfedges, counts.halfedges, counts.vertices) {
-        Some(h) => CleanupTopology::Unsound(h),
-        None => clean_at(
-            halfedges,
-            positions,
-            normals,
-            references,
-            spare_halfedges,
-            spare_positions,
-            work,
-            list,
-            limits,
-            counts.halfedges,
-            counts.vertices,
-        ),
-    }
+    soundness::check_rows(halfedges, counts.halfedges, counts.vertices)?;
+    clean_at(
+        halfedges,
+        positions,
+        normals,
+        references,
+        spare_halfedges,
+        spare_positions,
+        work,
+        list,
+        limits,
+        counts.halfedges,
+        counts.vertices,
+    )
 }

@@ -1,8 +1,10 @@
 -- The entry collapse_edge: answers 1, 2, 3, 4, 5, 8, then 6 or 7, whichever the steps meet first; 0 with the vertices in use.
-use Rattle.std.specs.Prelude.{Bool, cond, ◌&&◌, List, [], ◌∷◌, ℕ, ltb, Float, ℤ, pos, length}
-use Rattle.answers.specs.Answers.{Said, whole, done, shape, short_buffer, unsound, bad_number, dead, long, no_room, stopped}
+use Rattle.std.specs.Prelude.{Bool, cond, ◌&&◌, List, ℕ, ltb, Float, ℤ, ⊤, length, Result, Ok, Err}
+use Rattle.answers.specs.Answers.{Said, shape, short_buffer, bad_number, dead}
+use Rattle.refused.specs.declared.Refusal.{Refusal}
+use Rattle.refused.specs.Refused.{refused, count_said}
 use Rattle.laws.specs.Stretches.{cleared}
-use Rattle.numbers.specs.Numbers.{Named, names, named_or, halfedge_number}
+use Rattle.numbers.specs.Numbers.{Named, names, named_or}
 use Rattle.rows.specs.Halfedges.{over_rows}
 use Rattle.rows.specs.Triples.{over_triples}
 use Rattle.net.specs.declared.Counts.{Counts}
@@ -10,31 +12,15 @@ use Rattle.net.specs.Net.{Net}
 use Rattle.net.specs.Counts.{is_shaped, is_long, spare_holds, halfedge_capacity, vertex_capacity_over}
 use Rattle.soundness.specs.Check.{sound_or}
 use Rattle.rowtests.specs.Order.{least_out}
-use Rattle.steps.specs.Run.{Run}
-use Rattle.steps.specs.Steps.{Middle, Stopped, begin, ended, how_said}
+use Rattle.steps.specs.Steps.{Middle, Stopped, begin, ended, run_said}
 use Rattle.steps.specs.Settle.{settled}
 use Rattle.steps.specs.Entries.{past}
 use Rattle.judging.specs.declared.Tolerance.{Tolerance}
 use Rattle.judging.specs.Judge.{Judgement, found_short, found_long, found_dead, found_open, found_missing, judge}
 use Rattle.collapsing.specs.Collapse.{HowTried, went, left_dead, left_open, left_long, refusal, Trial, collapse_at}
-use Rattle.collapse.specs.declared.Barred.{Barred}
-use Rattle.collapse.specs.declared.Barred.TheVariants as B
-use Rattle.collapse.specs.declared.CollapseEdge.{CollapseEdge}
-use Rattle.collapse.specs.declared.CollapseEdge.TheVariants as C
 
-abbrev pub collapse_edge_said : CollapseEdge → Said
-collapse_edge_said (C.Done vertices) = done (whole (pos vertices) ∷ [])
-collapse_edge_said C.Shape = shape
-collapse_edge_said C.ShortBuffer = short_buffer
-collapse_edge_said (C.Unsound h) = unsound (halfedge_number h)
-collapse_edge_said C.Number = bad_number
-collapse_edge_said C.Dead = dead
-collapse_edge_said (C.Long length limit) = long length limit
-collapse_edge_said C.NoRoom = no_room
-collapse_edge_said C.Stopped = stopped
-
-abbrev pub run_said : Run → Said
-run_said r = how_said r.vertices r.how
+abbrev pub collapse_edge_said : Result ℕ Refusal → Said
+collapse_edge_said = count_said
 
 -- what is said, and the half-edge rows, positions, spares and list afterwards
 pub record Left : Type 0 where
@@ -63,10 +49,9 @@ bar found_dead = bars dead
 bar found_open = free
 bar found_missing = free
 
-abbrev pub barred : Barred → Bar
-barred B.Dead = bars dead
-barred (B.Long length limit) = bars (long length limit)
-barred B.Nothing = free
+abbrev pub barred : Result ⊤ Refusal → Bar
+barred (Ok x) = free
+barred (Err r) = bars (refused r)
 
 abbrev pub bar_or : {A : Type 0} → Bar → (Said → A) → A → A
 bar_or (bars s) refuse go = refuse s

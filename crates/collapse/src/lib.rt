@@ -10,51 +10,16 @@ ghost use Rattle.net.specs.Counts.{vertex_capacity_over};
 ghost use Rattle.net.specs.Net.{net};
 ghost use Rattle.steps.specs.Steps.{middle, begin, InUse, VerticesIn};
 ghost use Rattle.judging.specs.Judge.{judge};
-ghost use Rattle.collapsing.specs.Collapse.{tried, collapse_at};
-ghost use Rattle.collapse.specs.CollapseEdge.{collapse_edge_said, run_said, left, bar, barred, to_settle, collapse_settled, collapse_edge_named, tolerance, collapse_edge};
+ghost use Rattle.collapsing.specs.Collapse.{collapse_at};
+ghost use Rattle.collapse.specs.CollapseEdge.{collapse_edge_said, left, bar, barred, to_settle, collapse_settled, collapse_edge_named, tolerance, collapse_edge};
 
-use collapsing::Tried;
-use judging::{Judged, Tolerance};
+use judging::Tolerance;
 use net::Counts;
 use numbers::Halfedge;
-use steps::{How, Run};
+use refused::Refusal;
+use steps::Run;
 
-// What collapse_edge answers: on Done the vertices in use afterwards, on Long the squared length and the limit.
-#[derive(Clone, Copy)]
-pub enum CollapseEdge {
-    Done(usize),
-    Shape,
-    ShortBuffer,
-    Unsound(Halfedge),
-    Number,
-    Dead,
-    Long(f64, f64),
-    NoRoom,
-    Stopped,
-}
-
-// What bars an edge before anything is written: it is dead, or long.
-#[derive(Clone, Copy)]
-enum Barred {
-    Dead,
-    Long(f64, f64),
-    Nothing,
-}
-
-// How the steps ended, as the entry says it.
-fn answer(run: Run) -> CollapseEdge
-    ensures { collapse_edge_said result ≡ run_said run }
-{
-    let vertices = run.vertices;
-    let how = run.how;
-    match how {
-        How::Going => CollapseEdge::Done(vertices),
-        How::NoRoom => CollapseEdge::NoRoom,
-        How::Stopped => CollapseEdge::Stopped,
-    }
-}
-
-// What bars the edge e.
+// An edge that is dead, or long, is barred.
 fn bar(
     rows: &[i32],
     positions: &[u64],
@@ -62,33 +27,17 @@ fn bar(
     vertices: usize,
     tolerance: Tolerance,
     e: Halfedge,
-) -> Barred
+) -> Result<(), Refusal>
     requires { (halfedge_number e < halfedges) × (InUse halfedges rows.now × VerticesIn vertices positions.now) }
     ensures { barred result ≡ bar (judge halfedges vertices rows.now positions.now tolerance (halfedge_number e)) }
 {
     match judging::judge(rows, positions, halfedges, vertices, tolerance, e) {
-        Judged::Short(_, _) => Barred::Nothing,
-        Judged::Long(length, limit) => Barred::Long(length, limit),
-        Judged::Dead => Barred::Dead,
-        Judged::Open => Barred::Nothing,
-        Judged::Missing => Barred::Nothing,
+        Ok(_) | Err(Refusal::OpenFan | Refusal::Stopped) => Ok(()),
+        Err(refusal) => Err(refusal),
     }
 }
 
-// How the steps run after a try that began with `run`: an edge that was left alone stops them.
-fn run_of(attempt: Tried, run: Run) -> Run
-    ensures { (h : List ℤ) (p : List ℕ) → middle h p result ≡ to_settle (tried attempt run h p) }
-{
-    match attempt {
-        Tried::Went(r) => r,
-        Tried::Refused(r) => r,
-        Tried::Dead => steps::stopped(run),
-        Tried::Open => steps::stopped(run),
-        Tried::Long(_, _) => steps::stopped(run),
-    }
-}
-
-// The steps of collapse_edge, from `vertices` in use on.
+// The steps of collapse_edge, from `vertices` in use on: an edge that was left alone stops them.
 fn try_edge(
     rows: &mut [i32],
     positions: &mut [u64],
@@ -108,7 +57,7 @@ fn try_edge(
     let attempt = collapsing::collapse_step(
         rows, positions, references, list, halfedges, capacity, props, run, e, tolerance,
     );
-    run_of(attempt, run)
+    attempt.unwrap_or(steps::stopped(run))
 }
 
 // collapse_edge past the checks: the rows in use go to the spare, the steps work in place, and a refusal puts everything back.
@@ -126,7 +75,7 @@ fn collapse_settled(
     props: bool,
     tolerance: Tolerance,
     e: Halfedge,
-) -> CollapseEdge
+) -> Result<usize, Refusal>
     requires { ((halfedge_number e < halfedges) × InUse halfedges rows.old) × (((vertices ≤ capacity) × VerticesIn capacity positions.old) × ((props ≡ true → halfedges ≤ 3 * lent_triples references.now) × (((halfedges ≤ lent_halfedges spare_halfedges.old) × (vertices ≤ lent_triples spare_positions.old)) × ((halfedges ≤ room) × (room ≤ length list.old))))) }
     ensures { left (collapse_edge_said result) rows.new positions.new spare_halfedges.new spare_positions.new list.new ≡ collapse_settled halfedges vertices capacity room props references.now tolerance (halfedge_number e) rows.old positions.old spare_halfedges.old spare_positions.old list.old }
 {
@@ -145,10 +94,11 @@ fn collapse_settled(
         run,
     );
     stretches::fill(list, 0, 0, room);
-    answer(run)
+    steps::answer(run)
 }
 
 // Collapses the half-edge that a caller's number names.
+#[tactic(auto, using(refused::proofs::Laws::refused_number), unfolding(crate::specs::CollapseEdge::collapse_edge_named))]
 fn collapse_named(
     rows: &mut [i32],
     positions: &mut [u64],
@@ -162,38 +112,32 @@ fn collapse_named(
     props: bool,
     tolerance: Tolerance,
     halfedge: i32,
-) -> CollapseEdge
+) -> Result<usize, Refusal>
     requires { (InUse halfedges rows.old × (vertices ≤ vertex_capacity_over positions.old)) × ((props ≡ true → halfedges ≤ 3 * lent_triples references.now) × (((halfedges ≤ lent_halfedges spare_halfedges.old) × (vertices ≤ lent_triples spare_positions.old)) × ((halfedges ≤ room) × (room ≤ length list.old)))) }
     ensures { left (collapse_edge_said result) rows.new positions.new spare_halfedges.new spare_positions.new list.new ≡ collapse_edge_named halfedges vertices room props references.now tolerance rows.old positions.old spare_halfedges.old spare_positions.old list.old (names halfedge halfedges) }
 {
-    let Some(e) = numbers::halfedge_given(halfedge, halfedges) else {
-        return CollapseEdge::Number;
-    };
-    match bar(rows, positions, halfedges, vertices, tolerance, e) {
-        Barred::Dead => CollapseEdge::Dead,
-        Barred::Long(length, limit) => CollapseEdge::Long(length, limit),
-        Barred::Nothing => {
-            let capacity = net::vertex_capacity(positions);
-            collapse_settled(
-                rows,
-                positions,
-                references,
-                spare_halfedges,
-                spare_positions,
-                list,
-                halfedges,
-                vertices,
-                capacity,
-                room,
-                props,
-                tolerance,
-                e,
-            )
-        }
-    }
+    let e = refused::halfedge_given(halfedge, halfedges)?;
+    bar(rows, positions, halfedges, vertices, tolerance, e)?;
+    let capacity = net::vertex_capacity(positions);
+    collapse_settled(
+        rows,
+        positions,
+        references,
+        spare_halfedges,
+        spare_positions,
+        list,
+        halfedges,
+        vertices,
+        capacity,
+        room,
+        props,
+        tolerance,
+        e,
+    )
 }
 
-// The entry collapse_edge.
+// The entry collapse_edge: Ok with the vertices in use afterwards.
+#[tactic(auto, using(refused::proofs::Laws::refused_number), unfolding(crate::specs::CollapseEdge::collapse_edge))]
 pub fn collapse_edge(
     counts: Counts,
     halfedges: &mut [i32],
@@ -208,41 +152,39 @@ pub fn collapse_edge(
     first_new_vert: i32,
     tol: f64,
     epsilon: f64,
-) -> CollapseEdge
+) -> Result<usize, Refusal>
     ensures { left (collapse_edge_said result) halfedges.new positions.new spare_halfedges.new spare_positions.new list.new ≡ collapse_edge counts (net halfedges.old positions.old normals.now references.now properties.now) spare_halfedges.old spare_positions.old list.old halfedge (tolerance first_new_vert tol epsilon) }
 {
     if !net::shaped(
         counts, halfedges, positions, normals, references, properties,
     ) {
-        return CollapseEdge::Shape;
+        return Err(Refusal::Shape);
     }
     let room = net::halfedge_capacity(counts, halfedges, normals, references);
     if !(net::spare_fits(counts, spare_halfedges, spare_positions)
         & net::long_enough(list.len(), room))
     {
-        return CollapseEdge::ShortBuffer;
+        return Err(Refusal::ShortBuffer);
     }
     let props = (0 < counts.num_prop) & (0 < counts.references);
     let tolerance = Tolerance {
-        first_new_vert: first_new_vert,
-        tol: tol,
-        epsilon: epsilon,
+        first_new_vert,
+        tol,
+        epsilon,
     };
-    match soundness::first_out(halfedges, counts.halfedges, counts.vertices) {
-        Some(h) => CollapseEdge::Unsound(h),
-        None => collapse_named(
-            halfedges,
-            positions,
-            references,
-            spare_halfedges,
-            spare_positions,
-            list,
-            counts.halfedges,
-            counts.vertices,
-            room,
-            props,
-            tolerance,
-            halfedge,
-        ),
-    }
+    soundness::check_rows(halfedges, counts.halfedges, counts.vertices)?;
+    collapse_named(
+        halfedges,
+        positions,
+        references,
+        spare_halfedges,
+        spare_positions,
+        list,
+        counts.halfedges,
+        counts.vertices,
+        room,
+        props,
+        tolerance,
+        halfedge,
+    )
 }

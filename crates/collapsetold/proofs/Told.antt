@@ -3,18 +3,20 @@
 -- And two results that the contract allows agree.
 use mathlib.Core.Path.{◌≡◌, refl, sym, ap, ◌∙◌}
 use mathlib.Core.Bool.{Bool, true, false, cond, ◌&&◌}
-use mathlib.Core.List.{List, [], ◌∷◌}
+use mathlib.Core.List.{List}
 use mathlib.Core.Logic.{◌↔◌}
 use Prim.Native.Nat.{ℕ, ◌%◌, ◌<◌, ◌≤◌}
 use native.Mathlib.Omega.{arith}
 use borrow.Author.Tests.{eqb-false}
 use lib.Dec.{eqb}
-use lib.Ieee.{Float, binary64, lt, of_bits}
+use lib.Ieee.{Float, lt}
 use lib.IntN.{ℤ, pos}
 use lib.ListN.{length}
 use Rattle.answers.specs.Answers.{Said, Value, whole, float, done, bad_number}
 use Rattle.answers.specs.Answers as A
-use Rattle.answers.proofs.Laws.{first_value, read_back}
+use Rattle.std.specs.Prelude.{Result}
+use Rattle.refused.specs.declared.Refusal.{Refusal}
+use Rattle.refused.proofs.Laws.{count_agree}
 use Rattle.floats.specs.Short.{squared_length, limit_of, tolerance_of}
 use Rattle.floats.specs.Vectors.{minus3}
 use Rattle.laws.proofs.Tests.{by_test}
@@ -37,55 +39,19 @@ use Rattle.steps.specs.Entries.{past}
 use Rattle.judging.specs.declared.Tolerance.{Tolerance}
 use Rattle.judging.specs.Judge.{Judgement, found_short, found_long, found_dead, found_open, found_missing, vector, between, short_or, judge}
 use Rattle.collapsing.specs.Collapse.{collapse_at}
-use Rattle.collapse.specs.declared.CollapseEdge.{CollapseEdge}
-use Rattle.collapse.specs.declared.CollapseEdge.TheVariants as C
 use Rattle.collapse.specs.CollapseEdge.{Left, left, collapse_edge_said, bar, bar_or, to_settle, collapse_settled, collapse_edge_named, carries_props, collapse_edge}
 use Rattle.refusals.specs.Refusals.{of_sound, Names, NamesLive, Early, Refusals}
 use Rattle.refusals.proofs.Law.{Tells, checked, Begins, stops, goes}
 use Rattle.refusals.proofs.Entries.{long_refusals}
 use Rattle.refusals.proofs.Tests.{told_both, told_least, told_names, told_live, told_order, is_live}
 
--- ---- two results agree: the answer is read back from what is said
-abbrev float_of : Value → Float
-float_of (whole z) = of_bits binary64 0
-float_of (float f) = f
-
-abbrev first_float : List Value → Float
-first_float [] = of_bits binary64 0
-first_float (x ∷ l) = float_of x
-
-abbrev second_float : List Value → Float
-second_float [] = of_bits binary64 0
-second_float (x ∷ l) = first_float l
-
-abbrev answer_of : Said → CollapseEdge
-answer_of s =
-    cond (eqb s.number 0) (C.Done (first_value s))
-    (cond (eqb s.number 1) C.Shape
-    (cond (eqb s.number 2) C.ShortBuffer
-    (cond (eqb s.number 3) (C.Unsound (record { 0 = first_value s }))
-    (cond (eqb s.number 4) C.Number
-    (cond (eqb s.number 5) C.Dead
-    (cond (eqb s.number 6) C.NoRoom
-    (cond (eqb s.number 7) C.Stopped (C.Long (first_float s.values) (second_float s.values)))))))))
-
-told : (a : CollapseEdge) → answer_of (collapse_edge_said a) ≡ a
-told (C.Done vertices) = refl
-told C.Shape = refl
-told C.ShortBuffer = refl
-told (C.Unsound h) = refl
-told C.Number = refl
-told C.Dead = refl
-told (C.Long length limit) = refl
-told C.NoRoom = refl
-told C.Stopped = refl
-
-pub collapse_agree : (c : Counts) (n : Net) (spare_halfedges : List ℤ) (spare_positions list : List ℕ) (halfedge : ℤ) (t : Tolerance) (a b : CollapseEdge) (h k : List ℤ) (p q : List ℕ) (sh tk : List ℤ) (sp tq l m : List ℕ) →
+-- ---- two results agree
+pub collapse_agree : (c : Counts) (n : Net) (spare_halfedges : List ℤ) (spare_positions list : List ℕ) (halfedge : ℤ) (t : Tolerance) (a b : Result ℕ Refusal) (h k : List ℤ) (p q : List ℕ) (sh tk : List ℤ) (sp tq l m : List ℕ) →
     left (collapse_edge_said a) h p sh sp l ≡ collapse_edge c n spare_halfedges spare_positions list halfedge t → left (collapse_edge_said b) k q tk tq m ≡ collapse_edge c n spare_halfedges spare_positions list halfedge t →
     (a ≡ b) × ((h ≡ k) × ((p ≡ q) × ((sh ≡ tk) × ((sp ≡ tq) × (l ≡ m)))))
 collapse_agree c n spare_halfedges spare_positions list halfedge t a b h k p q sh tk sp tq l m x y =
     let e = x ∙ sym y in
-    (read_back collapse_edge_said answer_of told a b (ap (λ (o : Left). o.said) e), (ap (λ (o : Left). o.halfedges) e, (ap (λ (o : Left). o.positions) e, (ap (λ (o : Left). o.spare_halfedges) e, (ap (λ (o : Left). o.spare_positions) e, ap (λ (o : Left). o.list) e)))))
+    (count_agree a b (ap (λ (o : Left). o.said) e), (ap (λ (o : Left). o.halfedges) e, (ap (λ (o : Left). o.positions) e, (ap (λ (o : Left). o.spare_halfedges) e, (ap (λ (o : Left). o.spare_positions) e, ap (λ (o : Left). o.list) e)))))
 
 -- ---- 6 or 7: the half-edge rows are as at entry, and of the positions only the free rows that the steps had filled are changed: they read zero
 pub collapse_refused : (H N capacity room : ℕ) (props : Bool) (references : List ℤ) (t : Tolerance) (e : ℕ) (rows : List ℤ) (positions : List ℕ) (spare_halfedges : List ℤ) (spare_positions list : List ℕ) →

@@ -1,7 +1,10 @@
 -- The work of collapse_edge, short arm, on a net in the middle of an operation. e is the edge, p its partner and v the vertex where e
 -- ends, which is kept. It asks for no rows in order: an edge may be left alone, for a reason, and the steps may be refused.
-use Rattle.std.specs.Prelude.{Bool, cond, List, ℕ, ◌≤◌, ℤ, length}
-use Rattle.answers.specs.Answers.{Said, long}
+use Rattle.std.specs.Prelude.{Bool, cond, List, ℕ, ◌≤◌, ℤ, length, Result, Ok, Err}
+use Rattle.answers.specs.Answers.{Said}
+use Rattle.refused.specs.declared.Refusal.{Refusal}
+use Rattle.refused.specs.declared.Refusal.TheVariants as R
+use Rattle.refused.specs.Refused.{refused as said}
 use Rattle.numbers.specs.Numbers.{named_or}
 use Rattle.numbers.specs.Next.{next}
 use Rattle.steps.specs.Run.{Run}
@@ -13,8 +16,6 @@ use Rattle.rings.specs.Ring.{Listing, ringed, endless, ring}
 use Rattle.spinning.specs.Spin.{Spun, spin}
 use Rattle.judging.specs.declared.Tolerance.{Tolerance}
 use Rattle.judging.specs.Judge.{Judgement, found_short, found_long, found_dead, found_open, found_missing, judge}
-use Rattle.collapsing.specs.declared.Tried.{Tried}
-use Rattle.collapsing.specs.declared.Tried.TheVariants as T
 
 -- ---- after the loop: the last update, the edge's triangle taken out, and what has folded there
 unfoldable pub close : ℕ → ℕ → ℕ → Spun → Middle
@@ -52,25 +53,23 @@ pub record Trial : Type 0 where
 abbrev pub trial : HowTried → Middle → Trial
 trial o m = record { how_tried = o; middle = m }
 
--- what the code's try says, with the half-edge rows and positions that it leaves; an edge left alone leaves the run as it was
-abbrev pub tried : Tried → Run → List ℤ → List ℕ → Trial
-tried (T.Went r) run h p = trial went (middle h p r)
-tried (T.Refused r) run h p = trial refusal (middle h p r)
-tried T.Dead run h p = trial left_dead (middle h p run)
-tried T.Open run h p = trial left_open (middle h p run)
-tried (T.Long length limit) run h p = trial (left_long (long length limit)) (middle h p run)
-
--- the vertices in use are within a capacity
-abbrev pub TriedWithin : ℕ → Run → Tried → Type 0
-TriedWithin capacity run (T.Went r) = r.vertices ≤ capacity
-TriedWithin capacity run (T.Refused r) = r.vertices ≤ capacity
-TriedWithin capacity run T.Dead = run.vertices ≤ capacity
-TriedWithin capacity run T.Open = run.vertices ≤ capacity
-TriedWithin capacity run (T.Long length limit) = run.vertices ≤ capacity
-
 -- the steps ran: it went, or they were refused
 abbrev pub ran : Middle → Trial
 ran m = cond (refused m) (trial refusal m) (trial went m)
+
+-- what the code's try says, with the half-edge rows and positions that it leaves; an edge left alone leaves the run as it was. Only a long
+-- edge is left with values
+abbrev pub tried : Result Run Refusal → Run → List ℤ → List ℕ → Trial
+tried (Ok r) run h p = ran (middle h p r)
+tried (Err R.Dead) run h p = trial left_dead (middle h p run)
+tried (Err R.OpenFan) run h p = trial left_open (middle h p run)
+tried (Err R.Stopped) run h p = trial refusal (ended Stopped (middle h p run))
+tried (Err r) run h p = trial (left_long (said r)) (middle h p run)
+
+-- the vertices in use are within a capacity
+abbrev pub TriedWithin : ℕ → Run → Result Run Refusal → Type 0
+TriedWithin capacity run (Ok r) = r.vertices ≤ capacity
+TriedWithin capacity run (Err r) = run.vertices ≤ capacity
 
 abbrev pub by_judgement : ℕ → ℕ → Bool → List ℤ → ℕ → Middle → Judgement → Trial
 by_judgement H capacity props references e m (found_short p v) = ran (short_at H capacity props references v e p m)

@@ -7,28 +7,16 @@ ghost use Rattle.numbers.specs.Numbers.{halfedge_number, vertex_number};
 ghost use Rattle.numbers.specs.Next.{next};
 ghost use Rattle.rows.specs.Halfedges.{lent_halfedges};
 ghost use Rattle.rows.specs.Triples.{lent_triples};
-ghost use Rattle.steps.specs.Run.{Run};
 ghost use Rattle.steps.specs.Steps.{middle, InUse, VerticesIn};
 ghost use Rattle.rings.specs.Ring.{ring};
 ghost use Rattle.spinning.specs.Spin.{Around, spun_to};
-ghost use Rattle.collapsing.specs.Collapse.{close, about, with_list, short_at, tried, TriedWithin, ran, collapse_at};
+ghost use Rattle.collapsing.specs.Collapse.{close, about, with_list, short_at, tried, TriedWithin, collapse_at};
 
-use judging::{Judged, Tolerance};
+use judging::Tolerance;
 use numbers::{Halfedge, Vertex};
-use rings::Ring;
+use refused::Refusal;
 use spinning::{Ends, Last};
 use steps::Run;
-
-// How a try comes out: the edge went; the steps were refused; or it was left alone, since it has no pair, since the fan of its start is
-// open, or since it is long.
-#[derive(Clone, Copy)]
-pub enum Tried {
-    Went(Run),
-    Refused(Run),
-    Dead,
-    Open,
-    Long(f64, f64),
-}
 
 // After the loop: the last update, the edge's triangle taken out, and what has folded there.
 fn close(
@@ -91,8 +79,8 @@ fn listed_about(
     let p = ends.partner;
     let to = p.next().next();
     match rings::list_ring(rows, list, ends.halfedges, from, to) {
-        Ring::Listed(n) => about(rows, positions, references, &list[..n], ends, run, v, first),
-        Ring::Endless => steps::stopped(run),
+        Some(n) => about(rows, positions, references, &list[..n], ends, run, v, first),
+        None => steps::stopped(run),
     }
 }
 
@@ -120,17 +108,8 @@ fn short_step(
     listed_about(rows, positions, references, list, ends, run, v, first, from)
 }
 
-// The steps ran: the edge went, or they were refused.
-fn ran(run: Run) -> Tried
-    ensures { ((w : Run) (h : List ℤ) (p : List ℕ) → tried result w h p ≡ ran (middle h p run)) × ((capacity : ℕ) (w : Run) → run.vertices ≤ capacity → TriedWithin capacity w result) }
-{
-    if steps::refused(run) {
-        return Tried::Refused(run);
-    }
-    Tried::Went(run)
-}
-
-// Tries to collapse the edge e: the work of collapse_edge past its checks.
+// Tries to collapse the edge e: the work of collapse_edge past its checks. Ok: the steps ran, and the edge went, or they were refused. Err:
+// nothing was written, since e has no pair, is long, or has a start whose fan is open; or since a row isn't there, which stops the steps.
 pub fn collapse_step(
     rows: &mut [i32],
     positions: &mut [u64],
@@ -142,28 +121,20 @@ pub fn collapse_step(
     run: Run,
     e: Halfedge,
     tolerance: Tolerance,
-) -> Tried
+) -> Result<Run, Refusal>
     requires { ((halfedge_number e < halfedges) × InUse halfedges rows.old) × (((run.vertices ≤ capacity) × VerticesIn capacity positions.old) × ((props ≡ true → halfedges ≤ 3 * lent_triples references.now) × (halfedges ≤ length list.old))) }
     ensures { (tried result run rows.new positions.new ≡ collapse_at halfedges capacity props references.now tolerance (halfedge_number e) (middle rows.old positions.old run)) × (TriedWithin capacity run result × (drop halfedges list.new ≡ drop halfedges list.old)) }
 {
     if steps::refused(run) {
-        return Tried::Refused(run);
+        return Ok(run);
     }
-    match judging::judge(rows, positions, halfedges, run.vertices, tolerance, e) {
-        Judged::Short(p, v) => {
-            let ends = Ends {
-                halfedges: halfedges,
-                capacity: capacity,
-                props: props,
-                edge: e,
-                partner: p,
-            };
-            let r = short_step(rows, positions, references, list, ends, run, v);
-            ran(r)
-        }
-        Judged::Long(length, limit) => Tried::Long(length, limit),
-        Judged::Dead => Tried::Dead,
-        Judged::Open => Tried::Open,
-        Judged::Missing => Tried::Refused(steps::stopped(run)),
-    }
+    let short = judging::judge(rows, positions, halfedges, run.vertices, tolerance, e)?;
+    let ends = Ends {
+        halfedges,
+        capacity,
+        props,
+        edge: e,
+        partner: short.partner,
+    };
+    Ok(short_step(rows, positions, references, list, ends, run, short.end))
 }

@@ -1,12 +1,11 @@
 -- Two results that dedupe_edge's contract allows agree; and past the checks, where it is refused, everything in use is as it was.
-use mathlib.Core.Path.{◌≡◌, refl, sym, ap, ◌∙◌}
+use mathlib.Core.Path.{◌≡◌, sym, ap, ◌∙◌}
 use mathlib.Core.Bool.{true, cond}
 use mathlib.Core.List.{List}
 use Prim.Native.Nat.{ℕ, ◌/◌}
-use lib.Dec.{eqb}
 use lib.IntN.{ℤ}
-use Rattle.answers.specs.Answers.{Said}
-use Rattle.answers.proofs.Laws.{first_value, second_value, read_back}
+use Rattle.std.specs.Prelude.{Result}
+use Rattle.refused.specs.declared.Refusal.{Refusal}
 use Rattle.rows.specs.Halfedges.{zero_rows}
 use Rattle.rows.specs.Triples.{zero_triples, zero_references}
 use Rattle.net.specs.declared.Counts.{Counts}
@@ -14,8 +13,8 @@ use Rattle.net.specs.Net.{Net}
 use Rattle.growth.specs.declared.Limits.{Limits}
 use Rattle.growth.specs.Growth.{Growing, halted}
 use Rattle.settling.specs.Settling.{begun}
-use Rattle.dedupeedge.specs.declared.DedupeEdge.{DedupeEdge}
-use Rattle.dedupeedge.specs.declared.DedupeEdge.TheVariants as D
+use Rattle.settling.specs.declared.Extent.{Extent}
+use Rattle.settling.proofs.Extents.{extent_agree}
 use Rattle.dedupe.specs.Dedupe.{dedupe_at}
 use Rattle.dedupeedge.specs.DedupeEdge.{Left, left, dedupe_said, dedupe_edge_at, dedupe_edge}
 
@@ -35,30 +34,9 @@ module _ (l : Limits) (H N e : ℕ) (rows : List ℤ) (positions normals : List 
   unfolding dedupe_edge_at
   dedupe_refused t = (rw t, (rw t, (rw t, rw t)))
 
--- the answer, read back from what is said
-abbrev answer_of : Said → DedupeEdge
-answer_of s =
-    cond (eqb s.number 0) (D.Done (first_value s) (second_value s))
-    (cond (eqb s.number 1) D.Shape
-    (cond (eqb s.number 2) D.ShortBuffer
-    (cond (eqb s.number 3) (D.Unsound (record { 0 = first_value s }))
-    (cond (eqb s.number 4) D.Number
-    (cond (eqb s.number 5) D.Dead
-    (cond (eqb s.number 6) D.NoRoom D.Stopped))))))
-
-told : (a : DedupeEdge) → answer_of (dedupe_said a) ≡ a
-told (D.Done halfedges vertices) = refl
-told D.Shape = refl
-told D.ShortBuffer = refl
-told (D.Unsound h) = refl
-told D.Number = refl
-told D.Dead = refl
-told D.NoRoom = refl
-told D.Stopped = refl
-
-pub dedupe_agree : (c : Counts) (n : Net) (spare_halfedges : List ℤ) (spare_positions : List ℕ) (halfedge : ℤ) (a b : DedupeEdge) (h h' : List ℤ) (p p' f f' : List ℕ) (r r' s s' : List ℤ) (q q' : List ℕ) →
+pub dedupe_agree : (c : Counts) (n : Net) (spare_halfedges : List ℤ) (spare_positions : List ℕ) (halfedge : ℤ) (a b : Result Extent Refusal) (h h' : List ℤ) (p p' f f' : List ℕ) (r r' s s' : List ℤ) (q q' : List ℕ) →
     left (dedupe_said a) h p f r s q ≡ dedupe_edge c n spare_halfedges spare_positions halfedge → left (dedupe_said b) h' p' f' r' s' q' ≡ dedupe_edge c n spare_halfedges spare_positions halfedge →
     (a ≡ b) × ((h ≡ h') × ((p ≡ p') × ((f ≡ f') × ((r ≡ r') × ((s ≡ s') × (q ≡ q'))))))
 dedupe_agree c n spare_halfedges spare_positions halfedge a b h h' p p' f f' r r' s s' q q' x y =
     let e = x ∙ sym y in
-    (read_back dedupe_said answer_of told a b (ap (λ (o : Left). o.said) e), (ap (λ (o : Left). o.halfedges) e, (ap (λ (o : Left). o.positions) e, (ap (λ (o : Left). o.normals) e, (ap (λ (o : Left). o.references) e, (ap (λ (o : Left). o.spare_halfedges) e, ap (λ (o : Left). o.spare_positions) e))))))
+    (extent_agree a b (ap (λ (o : Left). o.said) e), (ap (λ (o : Left). o.halfedges) e, (ap (λ (o : Left). o.positions) e, (ap (λ (o : Left). o.normals) e, (ap (λ (o : Left). o.references) e, (ap (λ (o : Left). o.spare_halfedges) e, ap (λ (o : Left). o.spare_positions) e))))))

@@ -1,31 +1,24 @@
 -- The entry dedupe_edge: answers 1, 2, 3, 4, 5, then 6 or 7, whichever the steps meet first; 0 with the half-edges and vertices in use.
-use Rattle.std.specs.Prelude.{cond, List, [], ◌∷◌, ℕ, ℤ, pos}
-use Rattle.answers.specs.Answers.{Said, whole, done, shape, short_buffer, unsound, bad_number, dead, no_room, stopped}
-use Rattle.numbers.specs.Numbers.{Named, names, named_or, halfedge_number}
+use Rattle.std.specs.Prelude.{cond, List, ℕ, ℤ, Result}
+use Rattle.answers.specs.Answers.{Said, shape, short_buffer, bad_number, dead}
+use Rattle.numbers.specs.Numbers.{Named, names, named_or}
 use Rattle.rows.specs.Halfedges.{is_paired, over_rows}
 use Rattle.rows.specs.Triples.{over_triples}
 use Rattle.net.specs.declared.Counts.{Counts}
 use Rattle.net.specs.Net.{Net}
 use Rattle.net.specs.Counts.{is_shaped, spare_holds}
+use Rattle.refused.specs.declared.Refusal.{Refusal}
 use Rattle.soundness.specs.Check.{sound_or}
 use Rattle.rowtests.specs.Order.{least_out}
 use Rattle.steps.specs.Entries.{past}
 use Rattle.growth.specs.declared.Limits.{Limits}
 use Rattle.growth.specs.Growth.{Growing, rows_of, settled}
-use Rattle.settling.specs.Settling.{limits_of, begun, grown_said}
-use Rattle.dedupeedge.specs.declared.DedupeEdge.{DedupeEdge}
-use Rattle.dedupeedge.specs.declared.DedupeEdge.TheVariants as D
+use Rattle.settling.specs.Settling.{limits_of, begun, grown_said, extent_said}
+use Rattle.settling.specs.declared.Extent.{Extent}
 use Rattle.dedupe.specs.Dedupe.{dedupe_at}
 
-abbrev pub dedupe_said : DedupeEdge → Said
-dedupe_said (D.Done halfedges vertices) = done (whole (pos halfedges) ∷ whole (pos vertices) ∷ [])
-dedupe_said D.Shape = shape
-dedupe_said D.ShortBuffer = short_buffer
-dedupe_said (D.Unsound h) = unsound (halfedge_number h)
-dedupe_said D.Number = bad_number
-dedupe_said D.Dead = dead
-dedupe_said D.NoRoom = no_room
-dedupe_said D.Stopped = stopped
+abbrev pub dedupe_said : Result Extent Refusal → Said
+dedupe_said = extent_said
 
 -- what is said, and the half-edge rows, positions, normals, references and spares afterwards
 pub record Left : Type 0 where

@@ -7,39 +7,14 @@ ghost use Rattle.rows.specs.Halfedges.{lent_halfedges};
 ghost use Rattle.rows.specs.Triples.{lent_triples};
 ghost use Rattle.net.specs.Net.{net};
 ghost use Rattle.growth.specs.Growth.{Fitting};
-ghost use Rattle.settling.specs.Settling.{begun, said_of_grown};
+ghost use Rattle.settling.specs.Settling.{begun};
 ghost use Rattle.dedupeedge.specs.DedupeEdge.{dedupe_said, left, dedupe_edge_at, dedupe_named, dedupe_edge};
 
-use growth::{Grown, Limits};
+use growth::Limits;
 use net::Counts;
 use numbers::Halfedge;
-use steps::How;
-
-// What dedupe_edge answers: on Done the half-edges and vertices in use afterwards.
-#[derive(Clone, Copy)]
-pub enum DedupeEdge {
-    Done(usize, usize),
-    Shape,
-    ShortBuffer,
-    Unsound(Halfedge),
-    Number,
-    Dead,
-    NoRoom,
-    Stopped,
-}
-
-// How the steps ended, as the entry says it.
-fn answer(grown: Grown) -> DedupeEdge
-    ensures { dedupe_said result ≡ said_of_grown grown }
-{
-    let run = grown.run;
-    let how = run.how;
-    match how {
-        How::Going => DedupeEdge::Done(grown.halfedges, run.vertices),
-        How::NoRoom => DedupeEdge::NoRoom,
-        How::Stopped => DedupeEdge::Stopped,
-    }
-}
+use refused::Refusal;
+use settling::Extent;
 
 // dedupe_edge past the checks: the rows in use go to the spare, the steps work in place, and a refusal puts everything back.
 fn dedupe_settled(
@@ -53,7 +28,7 @@ fn dedupe_settled(
     halfedges: usize,
     vertices: usize,
     e: Halfedge,
-) -> DedupeEdge
+) -> Result<Extent, Refusal>
     requires { (halfedge_number e < halfedges) × (Fitting limits (begun halfedges vertices rows.old positions.old normals.old references.old) × ((halfedges ≤ lent_halfedges spare_halfedges.old) × (vertices ≤ lent_triples spare_positions.old))) }
     ensures { left (dedupe_said result) rows.new positions.new normals.new references.new spare_halfedges.new spare_positions.new ≡ dedupe_edge_at limits halfedges vertices (halfedge_number e) rows.old positions.old normals.old references.old spare_halfedges.old spare_positions.old }
 {
@@ -80,7 +55,7 @@ fn dedupe_settled(
         limits,
         grown,
     );
-    answer(grown)
+    settling::answer(grown)
 }
 
 // Dedupes the half-edge that a caller's number names.
@@ -95,15 +70,13 @@ fn dedupe_named(
     halfedges: usize,
     vertices: usize,
     halfedge: i32,
-) -> DedupeEdge
+) -> Result<Extent, Refusal>
     requires { Fitting limits (begun halfedges vertices rows.old positions.old normals.old references.old) × ((halfedges ≤ lent_halfedges spare_halfedges.old) × (vertices ≤ lent_triples spare_positions.old)) }
     ensures { left (dedupe_said result) rows.new positions.new normals.new references.new spare_halfedges.new spare_positions.new ≡ dedupe_named limits halfedges vertices rows.old positions.old normals.old references.old spare_halfedges.old spare_positions.old (names halfedge halfedges) }
 {
-    let Some(e) = numbers::halfedge_given(halfedge, halfedges) else {
-        return DedupeEdge::Number;
-    };
+    let e = refused::halfedge_given(halfedge, halfedges)?;
     if !edgetests::is_paired(rows, e) {
-        return DedupeEdge::Dead;
+        return Err(Refusal::Dead);
     }
     dedupe_settled(
         rows,
@@ -119,7 +92,7 @@ fn dedupe_named(
     )
 }
 
-// The entry dedupe_edge.
+// The entry dedupe_edge: on Ok the half-edges and vertices in use afterwards.
 pub fn dedupe_edge(
     counts: Counts,
     halfedges: &mut [i32],
@@ -130,31 +103,29 @@ pub fn dedupe_edge(
     spare_halfedges: &mut [i32],
     spare_positions: &mut [u64],
     halfedge: i32,
-) -> DedupeEdge
+) -> Result<Extent, Refusal>
     ensures { left (dedupe_said result) halfedges.new positions.new normals.new references.new spare_halfedges.new spare_positions.new ≡ dedupe_edge counts (net halfedges.old positions.old normals.old references.old properties.now) spare_halfedges.old spare_positions.old halfedge }
 {
     if !net::shaped(
         counts, halfedges, positions, normals, references, properties,
     ) {
-        return DedupeEdge::Shape;
+        return Err(Refusal::Shape);
     }
     if !net::spare_fits(counts, spare_halfedges, spare_positions) {
-        return DedupeEdge::ShortBuffer;
+        return Err(Refusal::ShortBuffer);
     }
     let limits = settling::limits_of(counts, halfedges, positions, normals, references);
-    match soundness::first_out(halfedges, counts.halfedges, counts.vertices) {
-        Some(h) => DedupeEdge::Unsound(h),
-        None => dedupe_named(
-            halfedges,
-            positions,
-            normals,
-            references,
-            spare_halfedges,
-            spare_positions,
-            limits,
-            counts.halfedges,
-            counts.vertices,
-            halfedge,
-        ),
-    }
+    soundness::check_rows(halfedges, counts.halfedges, counts.vertices)?;
+    dedupe_named(
+        halfedges,
+        positions,
+        normals,
+        references,
+        spare_halfedges,
+        spare_positions,
+        limits,
+        counts.halfedges,
+        counts.vertices,
+        halfedge,
+    )
 }

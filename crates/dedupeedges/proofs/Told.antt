@@ -1,12 +1,11 @@
 -- Two results that dedupe_edges' contract allows agree; and past the checks, where it is refused, everything in use is as it was.
-use mathlib.Core.Path.{◌≡◌, refl, sym, ap, ◌∙◌}
+use mathlib.Core.Path.{◌≡◌, sym, ap, ◌∙◌}
 use mathlib.Core.Bool.{true, cond}
 use mathlib.Core.List.{List}
 use Prim.Native.Nat.{ℕ, ◌/◌}
-use lib.Dec.{eqb}
 use lib.IntN.{ℤ}
-use Rattle.answers.specs.Answers.{Said}
-use Rattle.answers.proofs.Laws.{first_value, second_value, read_back}
+use Rattle.std.specs.Prelude.{Result}
+use Rattle.refused.specs.declared.Refusal.{Refusal}
 use Rattle.rows.specs.Halfedges.{zero_rows}
 use Rattle.rows.specs.Triples.{zero_triples, zero_references}
 use Rattle.net.specs.declared.Counts.{Counts}
@@ -14,8 +13,8 @@ use Rattle.net.specs.Net.{Net}
 use Rattle.growth.specs.declared.Limits.{Limits}
 use Rattle.growth.specs.Growth.{Growing, halted}
 use Rattle.settling.specs.Settling.{begun}
-use Rattle.dedupeedges.specs.declared.DedupeEdges.{DedupeEdges}
-use Rattle.dedupeedges.specs.declared.DedupeEdges.TheVariants as D
+use Rattle.settling.specs.declared.Extent.{Extent}
+use Rattle.settling.proofs.Extents.{extent_agree}
 use Rattle.rounds.specs.Rounds.{rounds}
 use Rattle.dedupeedges.specs.DedupeEdges.{Left, left, edges_said, rounds_at, dedupe_edges}
 
@@ -35,30 +34,13 @@ module _ (l : Limits) (H N : ℕ) (rows : List ℤ) (positions normals : List �
   unfolding rounds_at
   rounds_refused t = (rw t, (rw t, (rw t, rw t)))
 
--- the answer, read back from what is said
-abbrev answer_of : Said → DedupeEdges
-answer_of s =
-    cond (eqb s.number 0) (D.Done (first_value s) (second_value s))
-    (cond (eqb s.number 1) D.Shape
-    (cond (eqb s.number 2) D.ShortBuffer
-    (cond (eqb s.number 3) (D.Unsound (record { 0 = first_value s }))
-    (cond (eqb s.number 6) D.NoRoom D.Stopped))))
-
-told : (a : DedupeEdges) → answer_of (edges_said a) ≡ a
-told (D.Done halfedges vertices) = refl
-told D.Shape = refl
-told D.ShortBuffer = refl
-told (D.Unsound h) = refl
-told D.NoRoom = refl
-told D.Stopped = refl
-
 -- two that are left alike are alike in everything
 pub same_left : {a b : Left} → a ≡ b → (a.said ≡ b.said) × ((a.halfedges ≡ b.halfedges) × ((a.positions ≡ b.positions) × ((a.normals ≡ b.normals) × ((a.references ≡ b.references) × ((a.spare_halfedges ≡ b.spare_halfedges) × ((a.spare_positions ≡ b.spare_positions) × ((a.work ≡ b.work) × (a.list ≡ b.list))))))))
 same_left e =
     (ap (λ (o : Left). o.said) e, (ap (λ (o : Left). o.halfedges) e, (ap (λ (o : Left). o.positions) e, (ap (λ (o : Left). o.normals) e, (ap (λ (o : Left). o.references) e, (ap (λ (o : Left). o.spare_halfedges) e, (ap (λ (o : Left). o.spare_positions) e, (ap (λ (o : Left). o.work) e, ap (λ (o : Left). o.list) e))))))))
 
-pub edges_agree : (c : Counts) (n : Net) (spare_halfedges : List ℤ) (spare_positions work list : List ℕ) (a b : DedupeEdges) (h h' : List ℤ) (p p' f f' : List ℕ) (r r' s s' : List ℤ) (q q' w w' l l' : List ℕ) →
+pub edges_agree : (c : Counts) (n : Net) (spare_halfedges : List ℤ) (spare_positions work list : List ℕ) (a b : Result Extent Refusal) (h h' : List ℤ) (p p' f f' : List ℕ) (r r' s s' : List ℤ) (q q' w w' l l' : List ℕ) →
     left (edges_said a) h p f r s q w l ≡ dedupe_edges c n spare_halfedges spare_positions work list → left (edges_said b) h' p' f' r' s' q' w' l' ≡ dedupe_edges c n spare_halfedges spare_positions work list →
     (a ≡ b) × ((h ≡ h') × ((p ≡ p') × ((f ≡ f') × ((r ≡ r') × ((s ≡ s') × ((q ≡ q') × ((w ≡ w') × (l ≡ l'))))))))
 edges_agree c n spare_halfedges spare_positions work list a b h h' p p' f f' r r' s s' q q' w w' l l' x y =
-    let e = same_left (x ∙ sym y) in (read_back edges_said answer_of told a b e.0, e.1)
+    let e = same_left (x ∙ sym y) in (extent_agree a b e.0, e.1)

@@ -1,30 +1,24 @@
 -- The entry dedupe_edges: answers 1, 2, 3, then 6 or 7, whichever the rounds meet first; 0 with the half-edges and vertices in use.
-use Rattle.std.specs.Prelude.{Bool, cond, ◌&&◌, List, [], ◌∷◌, ℕ, ◌≤◌, ℤ, pos, length}
-use Rattle.answers.specs.Answers.{Said, whole, done, shape, short_buffer, unsound, no_room, stopped}
+use Rattle.std.specs.Prelude.{Bool, cond, ◌&&◌, List, ℕ, ◌≤◌, ℤ, length, Result}
+use Rattle.answers.specs.Answers.{Said, shape, short_buffer}
 use Rattle.laws.specs.Stretches.{cleared}
-use Rattle.numbers.specs.Numbers.{halfedge_number}
 use Rattle.rows.specs.Halfedges.{lent_halfedges, over_rows}
 use Rattle.rows.specs.Triples.{lent_triples, over_triples}
 use Rattle.net.specs.declared.Counts.{Counts}
 use Rattle.net.specs.Net.{Net}
 use Rattle.net.specs.Counts.{is_shaped, is_long, spare_holds}
+use Rattle.refused.specs.declared.Refusal.{Refusal}
 use Rattle.soundness.specs.Check.{sound_or}
 use Rattle.rowtests.specs.Order.{least_out}
 use Rattle.steps.specs.Entries.{past}
 use Rattle.growth.specs.declared.Limits.{Limits}
 use Rattle.growth.specs.Growth.{Growing, rows_of, settled}
-use Rattle.settling.specs.Settling.{limits_of, begun, grown_said}
-use Rattle.dedupeedges.specs.declared.DedupeEdges.{DedupeEdges}
-use Rattle.dedupeedges.specs.declared.DedupeEdges.TheVariants as D
+use Rattle.settling.specs.Settling.{limits_of, begun, grown_said, extent_said}
+use Rattle.settling.specs.declared.Extent.{Extent}
 use Rattle.rounds.specs.Rounds.{rounds}
 
-abbrev pub edges_said : DedupeEdges → Said
-edges_said (D.Done halfedges vertices) = done (whole (pos halfedges) ∷ whole (pos vertices) ∷ [])
-edges_said D.Shape = shape
-edges_said D.ShortBuffer = short_buffer
-edges_said (D.Unsound h) = unsound (halfedge_number h)
-edges_said D.NoRoom = no_room
-edges_said D.Stopped = stopped
+abbrev pub edges_said : Result Extent Refusal → Said
+edges_said = extent_said
 
 -- what is said, and the half-edge rows, positions, normals, references, spares, work buffer and list afterwards
 pub record Left : Type 0 where

@@ -7,38 +7,14 @@ ghost use Rattle.rows.specs.Halfedges.{lent_halfedges};
 ghost use Rattle.rows.specs.Triples.{lent_triples};
 ghost use Rattle.net.specs.Net.{net};
 ghost use Rattle.growth.specs.Growth.{so_far, Fitting};
-ghost use Rattle.settling.specs.Settling.{begun, said_of_grown, settled_by};
+ghost use Rattle.settling.specs.Settling.{begun, settled_by};
 ghost use Rattle.rounds.specs.Rounds.{rounds};
 ghost use Rattle.dedupeedges.specs.DedupeEdges.{edges_said, left, Enough, lent_enough, rounds_at, dedupe_edges};
 
 use growth::{Grown, Limits};
 use net::Counts;
-use numbers::Halfedge;
-use steps::How;
-
-// What dedupe_edges answers: on Done the half-edges and vertices in use afterwards.
-#[derive(Clone, Copy)]
-pub enum DedupeEdges {
-    Done(usize, usize),
-    Shape,
-    ShortBuffer,
-    Unsound(Halfedge),
-    NoRoom,
-    Stopped,
-}
-
-// How the rounds ended, as the entry says it.
-fn answer(grown: Grown) -> DedupeEdges
-    ensures { edges_said result ≡ said_of_grown grown }
-{
-    let run = grown.run;
-    let how = run.how;
-    match how {
-        How::Going => DedupeEdges::Done(grown.halfedges, run.vertices),
-        How::NoRoom => DedupeEdges::NoRoom,
-        How::Stopped => DedupeEdges::Stopped,
-    }
-}
+use refused::Refusal;
+use settling::Extent;
 
 // The rounds, settled from a spare that holds what was in use: work buffer and list read zero over `long` and over the half-edge capacity.
 pub fn rounds_settled(
@@ -93,7 +69,7 @@ fn rounds_at(
     limits: Limits,
     halfedges: usize,
     vertices: usize,
-) -> DedupeEdges
+) -> Result<Extent, Refusal>
     requires { Fitting limits (begun halfedges vertices rows.old positions.old normals.old references.old) × Enough limits halfedges vertices limits.halfedges spare_halfedges.old spare_positions.old work.old list.old }
     ensures { left (edges_said result) rows.new positions.new normals.new references.new spare_halfedges.new spare_positions.new work.new list.new ≡ rounds_at limits halfedges vertices rows.old positions.old normals.old references.old spare_halfedges.old spare_positions.old work.old list.old }
 {
@@ -114,7 +90,7 @@ fn rounds_at(
         limits.halfedges,
         settling::begun(halfedges, vertices),
     );
-    answer(grown)
+    settling::answer(grown)
 }
 
 // Whether the spare holds the rows in use, and work buffer and list are not too short.
@@ -134,7 +110,7 @@ pub fn enough(
         & net::long_enough(list.len(), capacity)
 }
 
-// The entry dedupe_edges.
+// The entry dedupe_edges: on Ok the half-edges and vertices in use afterwards.
 pub fn dedupe_edges(
     counts: Counts,
     halfedges: &mut [i32],
@@ -146,13 +122,13 @@ pub fn dedupe_edges(
     spare_positions: &mut [u64],
     work: &mut [u32],
     list: &mut [u32],
-) -> DedupeEdges
+) -> Result<Extent, Refusal>
     ensures { left (edges_said result) halfedges.new positions.new normals.new references.new spare_halfedges.new spare_positions.new work.new list.new ≡ dedupe_edges counts (net halfedges.old positions.old normals.old references.old properties.now) spare_halfedges.old spare_positions.old work.old list.old }
 {
     if !net::shaped(
         counts, halfedges, positions, normals, references, properties,
     ) {
-        return DedupeEdges::Shape;
+        return Err(Refusal::Shape);
     }
     let limits = settling::limits_of(counts, halfedges, positions, normals, references);
     let capacity = limits.halfedges;
@@ -165,22 +141,20 @@ pub fn dedupe_edges(
         capacity,
         capacity,
     ) {
-        return DedupeEdges::ShortBuffer;
+        return Err(Refusal::ShortBuffer);
     }
-    match soundness::first_out(halfedges, counts.halfedges, counts.vertices) {
-        Some(h) => DedupeEdges::Unsound(h),
-        None => rounds_at(
-            halfedges,
-            positions,
-            normals,
-            references,
-            spare_halfedges,
-            spare_positions,
-            work,
-            list,
-            limits,
-            counts.halfedges,
-            counts.vertices,
-        ),
-    }
+    soundness::check_rows(halfedges, counts.halfedges, counts.vertices)?;
+    rounds_at(
+        halfedges,
+        positions,
+        normals,
+        references,
+        spare_halfedges,
+        spare_positions,
+        work,
+        list,
+        limits,
+        counts.halfedges,
+        counts.vertices,
+    )
 }

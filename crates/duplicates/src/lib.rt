@@ -2,47 +2,25 @@
 // same vertex. The rows need not be in order.
 #![tactic(auto)]
 
-ghost use Rattle.std.specs.Prelude.{◌≡◌, cond, ◌&&◌, ℕ, ◌<◌, ◌≤◌, ltb, length, get_or, drop};
+ghost use Rattle.std.specs.Prelude.{◌≡◌, Bool, cond, ◌&&◌, ℕ, ◌<◌, ◌≤◌, ltb, length, get_or, drop};
 ghost use Rattle.numbers.specs.Next.{most_halfedges};
 ghost use Rattle.numbers.specs.Numbers.{halfedge_number, halfedge_named, names, is_named};
 ghost use Rattle.rows.specs.Halfedges.{end_of, lent_halfedges};
 ghost use Rattle.steps.specs.Steps.{InUse};
 ghost use Rattle.searches.specs.Duplicates.{fan, ends_alike, is_duplicate};
-ghost use Rattle.duplicates.specs.Scan.{turn_on, entries, push, push_all, picked, is_passed, mark_all, scan, scan_row, found};
+ghost use Rattle.duplicates.specs.Scan.{entries, push, push_all, picked, is_passed, mark_all, scan, scan_row, found};
 
+pub mod fans;
+
+use fans::Fan;
 use numbers::Halfedge;
-
-// Where the walk from `home` goes on from c, with so many turns left.
-pub fn turn_on(
-    rows: &[i32],
-    halfedges: usize,
-    home: Halfedge,
-    left: usize,
-    c: Halfedge,
-) -> Option<Halfedge>
-    requires { (halfedge_number c < halfedges) × InUse halfedges rows.now }
-    ensures { halfedge_named result ≡ turn_on halfedges rows.now (halfedge_number home) left (halfedge_number c) }
-{
-    if left == 0 {
-        return None;
-    }
-    let p = rows::halfedges::pair_of(rows, c, halfedges)?;
-    let q = p.next();
-    if q == home {
-        return None;
-    }
-    Some(q)
-}
 
 // The end of h is one of `vertices`.
 fn ends_in(rows: &[i32], vertices: usize, h: Halfedge) -> bool
     requires { halfedge_number h < lent_halfedges rows.now }
     ensures { result ≡ is_named (names (end_of rows.now (halfedge_number h)) vertices) }
 {
-    match rows::halfedges::end_of(rows, h, vertices) {
-        Some(_) => true,
-        None => false,
-    }
+    rows::halfedges::end_of(rows, h, vertices).is_some()
 }
 
 // d is smaller than c and ends at the same vertex.
@@ -60,18 +38,12 @@ fn is_duplicate(rows: &[i32], halfedges: usize, vertices: usize, i: Halfedge, c:
     requires { (halfedge_number i < halfedges) × ((halfedge_number c < halfedges) × InUse halfedges rows.now) }
     ensures { result ≡ is_duplicate vertices rows.now (fan halfedges rows.now (halfedge_number i)) (halfedge_number c) }
 {
-    let mut d = i;
-    let mut left = halfedges;
-    loop {
+    for d in Fan::of(rows, halfedges, i) {
         if outranks(rows, vertices, d, c) {
             return true;
         }
-        let Some(q) = turn_on(rows, halfedges, i, left, d) else {
-            return false;
-        };
-        d = q;
-        left -= 1;
     }
+    false
 }
 
 // Puts h behind the entries, where it is to be listed and the capacity is not reached. How many there are then.
@@ -89,31 +61,25 @@ pub fn push_if(list: &mut [u32], capacity: usize, count: usize, there: bool, h: 
     count + 1
 }
 
-// Lists the duplicates of the fan of i behind the entries. How many there are then.
-fn push_fan(
+// Lists those of the fan of i that are to be listed behind the entries. How many there are then.
+pub fn push_fan<F: Fn(Halfedge) -> bool>(
     rows: &[i32],
     list: &mut [u32],
     halfedges: usize,
-    vertices: usize,
     capacity: usize,
     count: usize,
     i: Halfedge,
+    listed: F,
 ) -> usize
-    requires { (halfedge_number i < halfedges) × (InUse halfedges rows.now × (capacity ≤ length list.old)) }
-    ensures { entries list.new result ≡ push_all capacity (picked (is_duplicate vertices rows.now (fan halfedges rows.now (halfedge_number i))) (fan halfedges rows.now (halfedge_number i))) (entries list.old count) }
+    requires fan { (halfedge_number i < halfedges) × (InUse halfedges rows.now × (capacity ≤ length list.old)) }
+    requires test { (c : _) → halfedge_number c < halfedges → F.pre listed c }
+    ensures { (test : ℕ → Bool) → ((c : _) (r : Bool) → F.post listed c r → r ≡ test (halfedge_number c)) → entries list.new result ≡ push_all capacity (picked test (fan halfedges rows.now (halfedge_number i))) (entries list.old count) }
 {
-    let mut c = i;
-    let mut left = halfedges;
     let mut n = count;
-    loop {
-        let there = is_duplicate(rows, halfedges, vertices, i, c);
-        n = push_if(list, capacity, n, there, c);
-        let Some(q) = turn_on(rows, halfedges, i, left, c) else {
-            return n;
-        };
-        c = q;
-        left -= 1;
+    for c in Fan::of(rows, halfedges, i) {
+        n = push_if(list, capacity, n, listed(c), c);
     }
+    n
 }
 
 const MARKED: u32 = 1;
@@ -123,16 +89,8 @@ fn mark_fan(rows: &[i32], work: &mut [u32], halfedges: usize, i: Halfedge)
     requires { (halfedge_number i < halfedges) × (InUse halfedges rows.now × (halfedges ≤ length work.old)) }
     ensures { work.new ≡ mark_all (fan halfedges rows.now (halfedge_number i)) work.old }
 {
-    let mut c = i;
-    let mut left = halfedges;
-    loop {
-        let k = c.number();
-        work[k] = MARKED;
-        let Some(q) = turn_on(rows, halfedges, i, left, c) else {
-            return;
-        };
-        c = q;
-        left -= 1;
+    for c in Fan::of(rows, halfedges, i) {
+        work[c.number()] = MARKED;
     }
 }
 
@@ -163,7 +121,9 @@ fn scan_row(
         return count;
     }
     mark_fan(rows, work, halfedges, h);
-    push_fan(rows, list, halfedges, vertices, capacity, count, h)
+    push_fan(rows, list, halfedges, capacity, count, h, |c| {
+        is_duplicate(rows, halfedges, vertices, h, c)
+    })
 }
 
 // Lists the duplicates from the front of the list on, as many as the capacity allows. How many are listed. Nothing is marked yet.
@@ -179,11 +139,9 @@ fn scan_rows(
     ensures { (entries list.new result ≡ found halfedges vertices capacity rows.now list.old) × (drop halfedges work.new ≡ drop halfedges work.old) }
 {
     let mut count = 0;
-    let mut i = 0;
-    while i < halfedges {
+    for i in 0..halfedges {
         let h = numbers::halfedge_counted(i);
         count = scan_row(rows, work, list, halfedges, vertices, capacity, count, h);
-        i += 1;
     }
     count
 }

@@ -12,9 +12,9 @@ ghost use Rattle.collapsing.specs.Collapse.{tried, collapse_at};
 ghost use Rattle.collapse.specs.CollapseEdge.{tolerance};
 ghost use Rattle.innersteps.specs.Told.{counts_of, run_told, refused_by, collapse_step, update_step, fold_step, loop_step, trial_left, try_step};
 
-use collapsing::Tried;
 use judging::Tolerance;
 use numbers::Halfedge;
+use refused::Refusal;
 use steps::{How, Run};
 
 #[repr(C)]
@@ -52,21 +52,14 @@ fn counts_of(used: Used) -> net::Counts
 fn told(run: Run) -> StepAnswer
     ensures { result ≡ run_told run }
 {
-    let vertices = run.vertices;
-    let how = run.how;
-    match how {
-        How::Going => StepAnswer {
-            number: 0,
-            vertices,
-        },
-        How::NoRoom => StepAnswer {
-            number: 6,
-            vertices,
-        },
-        How::Stopped => StepAnswer {
-            number: 7,
-            vertices,
-        },
+    let number = match run.how {
+        How::Going => 0,
+        How::NoRoom => 6,
+        How::Stopped => 7,
+    };
+    StepAnswer {
+        number,
+        vertices: run.vertices,
     }
 }
 
@@ -101,7 +94,7 @@ pub extern "C" fn innersteps_collapse(
     ) {
         return refused(1);
     }
-    let Some(e) = numbers::halfedge_given(halfedge, used.halfedges) else {
+    let Some(e) = numbers::halfedge_read(halfedge, used.halfedges) else {
         return refused(4);
     };
     told(triangles::collapse_step(halfedges, used.halfedges, steps::begun(used.vertices), e))
@@ -131,13 +124,13 @@ pub extern "C" fn innersteps_update(
     ) {
         return refused(1);
     }
-    let Some(v) = numbers::vertex_given(vertex, used.vertices) else {
+    let Some(v) = numbers::vertex_read(vertex, used.vertices) else {
         return refused(4);
     };
-    let Some(a) = numbers::halfedge_given(start, used.halfedges) else {
+    let Some(a) = numbers::halfedge_read(start, used.halfedges) else {
         return refused(4);
     };
-    let Some(b) = numbers::halfedge_given(end, used.halfedges) else {
+    let Some(b) = numbers::halfedge_read(end, used.halfedges) else {
         return refused(4);
     };
     told(walks::update_step(
@@ -172,7 +165,7 @@ pub extern "C" fn innersteps_fold(
     ) {
         return refused(1);
     }
-    let Some(e) = numbers::halfedge_given(halfedge, used.halfedges) else {
+    let Some(e) = numbers::halfedge_read(halfedge, used.halfedges) else {
         return refused(4);
     };
     told(folds::fold_step(
@@ -207,10 +200,10 @@ pub extern "C" fn innersteps_loop(
     ) {
         return refused(1);
     }
-    let Some(a) = numbers::halfedge_given(first, used.halfedges) else {
+    let Some(a) = numbers::halfedge_read(first, used.halfedges) else {
         return refused(4);
     };
-    let Some(b) = numbers::halfedge_given(second, used.halfedges) else {
+    let Some(b) = numbers::halfedge_read(second, used.halfedges) else {
         return refused(4);
     };
     let capacity = net::vertex_capacity(positions);
@@ -226,24 +219,21 @@ pub extern "C" fn innersteps_loop(
 }
 
 // How a try that began with `run` came out: by how the steps ended, or 5, 9 or 8 where the edge was left alone.
-fn tried_told(attempt: Tried, run: Run) -> StepAnswer
+fn tried_told(attempt: Result<Run, Refusal>, run: Run) -> StepAnswer
     ensures { (h : List ℤ) (p : List ℕ) → (result, (h, p)) ≡ trial_left (tried attempt run h p) }
 {
-    match attempt {
-        Tried::Went(ended) => told(ended),
-        Tried::Refused(ended) => told(ended),
-        Tried::Dead => StepAnswer {
-            number: 5,
-            vertices: run.vertices,
-        },
-        Tried::Open => StepAnswer {
-            number: 9,
-            vertices: run.vertices,
-        },
-        Tried::Long(_, _) => StepAnswer {
-            number: 8,
-            vertices: run.vertices,
-        },
+    let number = match attempt {
+        Ok(ended) => {
+            return told(ended);
+        }
+        Err(Refusal::Dead) => 5,
+        Err(Refusal::OpenFan) => 9,
+        Err(Refusal::Stopped) => 7,
+        Err(_) => 8,
+    };
+    StepAnswer {
+        number,
+        vertices: run.vertices,
     }
 }
 
@@ -300,14 +290,14 @@ pub extern "C" fn innersteps_try(
     if !net::long_enough(list.len(), used.halfedges) {
         return refused(2);
     }
-    let Some(e) = numbers::halfedge_given(halfedge, used.halfedges) else {
+    let Some(e) = numbers::halfedge_read(halfedge, used.halfedges) else {
         return refused(4);
     };
     let props = (0 < used.num_prop) & (0 < used.references);
     let tolerance = Tolerance {
-        first_new_vert: first_new_vert,
-        tol: tol,
-        epsilon: epsilon,
+        first_new_vert,
+        tol,
+        epsilon,
     };
     try_at(
         halfedges,

@@ -1,6 +1,6 @@
 -- An edge that is judged short: its partner is in use, and so is the vertex where it ends.
-use mathlib.Core.Path.{◌≡◌, refl}
-use mathlib.Core.Bool.{cond}
+use mathlib.Core.Path.{◌≡◌, refl, ap}
+use mathlib.Core.Bool.{true, false, cond}
 use mathlib.Core.List.{List}
 use Prim.Native.Nat.{ℕ, ◌<◌}
 use native.Mathlib.Omega.{arith}
@@ -11,8 +11,52 @@ use Rattle.numbers.specs.Numbers.{Named, at, nothing, names, named_or}
 use Rattle.numbers.specs.Next.{next}
 use Rattle.numbers.proofs.Names.{names_below}
 use Rattle.rows.specs.Halfedges.{start_of, end_of, pair_of, is_paired}
+use Rattle.std.specs.Prelude.{Float, Result, Err}
+use Rattle.std.specs.Result.{IsErrAnd}
+use Rattle.std.proofs.lemmas.Result.{err_from_is_err_and}
+use Rattle.std.specs.Float.Ieee.{lt}
+use Rattle.answers.specs.Answers.{Said}
+use Rattle.refused.specs.declared.Refusal.{Refusal}
+use Rattle.refused.specs.declared.Refusal.TheVariants as R
+use Rattle.refused.specs.Refused.{refused}
+use Rattle.floats.specs.Short.{short_or_long}
+use Rattle.judging.specs.declared.Short.{Short}
 use Rattle.judging.specs.declared.Tolerance.{Tolerance}
-use Rattle.judging.specs.Judge.{Judgement, found_short, found_long, found_dead, found_open, found_missing, short_or, between, judge}
+use Rattle.judging.specs.Judge.{Judgement, found_short, found_long, found_dead, found_open, found_missing, short_or, between, judge, judged}
+
+-- a row that isn't there
+pub judged_missing : {X : Type 0} (r : Result Short Refusal) (q : Refusal) → IsErrAnd r (λ y. y ≡ q) → ◌≡◌ {A = Result X Refusal} (Err q) (Err R.Stopped) → judged r ≡ found_missing
+judged_missing r q is e =
+    let k = err_from_is_err_and r is in
+    let s : k.0 ≡ R.Stopped = cc in
+    rw (k.1, s)
+
+-- the short test is no refusal with another number
+not_measured : (length limit : Float) (s : Said) (n : ℕ) → eqb s.number n ≡ true → eqb 0 n ≡ false → eqb 8 n ≡ false → s ≡ short_or_long length limit → ⊥
+not_measured length limit s n a b c e =
+    by_test (lt length limit)
+    (λ t. let z : eqb s.number n ≡ eqb 0 n = ap (λ (x : Said). eqb x.number n) (rw t at e) in cc)
+    (λ t. let z : eqb s.number n ≡ eqb 8 n = ap (λ (x : Said). eqb x.number n) (rw t at e) in cc)
+
+module _ (p v : ℕ) where
+  measured_long : (length limit : Float) (r : Refusal) → refused r ≡ short_or_long length limit → judged (Err r) ≡ short_or p v (refused r)
+  measured_long _ _ R.Shape e = refl
+  measured_long _ _ R.ShortBuffer e = refl
+  measured_long _ _ (R.Unsound h) e = refl
+  measured_long _ _ R.Number e = refl
+  measured_long a b R.Dead e = absurd (not_measured a b (refused R.Dead) 5 refl refl refl e)
+  measured_long _ _ R.NoRoom e = refl
+  measured_long a b R.Stopped e = absurd (not_measured a b (refused R.Stopped) 7 refl refl refl e)
+  measured_long _ _ (R.Long x y) e = refl
+  measured_long a b R.OpenFan e = absurd (not_measured a b (refused R.OpenFan) 9 refl refl refl e)
+  measured_long _ _ R.NoOwners e = refl
+
+  -- what the short test refuses is long
+  pub judged_long : (positions : List ℕ) (t : Tolerance) (u w : ℕ) (r : Result Short Refusal) (q : Refusal) → IsErrAnd r (λ y. y ≡ q) → refused q ≡ between positions t u w → judged r ≡ short_or p v (refused q)
+  unfolding between
+  judged_long positions t u w r q is e =
+      let k = err_from_is_err_and r is in
+      rw (k.1, k.2) (measured_long _ _ q e)
 
 -- what a judgement says of numbers in use
 abbrev pub InUseBy : ℕ → ℕ → Judgement → Type 0

@@ -1,6 +1,6 @@
 -- How an edge e of a net in the middle of an operation is judged, before a collapse writes anything. It asks for no rows in order.
-use Rattle.std.specs.Prelude.{cond, List, ℕ, eqb, ℤ, pos}
-use Rattle.answers.specs.Answers.{Said, long}
+use Rattle.std.specs.Prelude.{cond, List, ℕ, eqb, ℤ, pos, Result, Ok, Err}
+use Rattle.answers.specs.Answers.{Said}
 use Rattle.numbers.specs.Numbers.{names, named_or, halfedge_number, vertex_number}
 use Rattle.numbers.specs.Next.{next}
 use Rattle.floats.specs.declared.Vec3.{Vec3}
@@ -9,8 +9,10 @@ use Rattle.floats.specs.Short.{short_test}
 use Rattle.rows.specs.declared.triples.Bits3.{Bits3}
 use Rattle.rows.specs.Halfedges.{start_of, end_of, pair_of, is_paired}
 use Rattle.rows.specs.Triples.{triple}
-use Rattle.judging.specs.declared.Judged.{Judged}
-use Rattle.judging.specs.declared.Judged.TheVariants as J
+use Rattle.refused.specs.declared.Refusal.{Refusal}
+use Rattle.refused.specs.declared.Refusal.TheVariants as R
+use Rattle.refused.specs.Refused.{refused}
+use Rattle.judging.specs.declared.Short.{Short}
 use Rattle.judging.specs.declared.Tolerance.{Tolerance}
 
 -- ---- the short test between the positions of vertices u and v, of which v is the end
@@ -30,12 +32,13 @@ pub data Judgement : Type 0 where
   found_open : Judgement
   found_missing : Judgement
 
-abbrev pub judged : Judged → Judgement
-judged (J.Short p v) = found_short (halfedge_number p) (vertex_number v)
-judged (J.Long length limit) = found_long (long length limit)
-judged J.Dead = found_dead
-judged J.Open = found_open
-judged J.Missing = found_missing
+-- what the code's answer says: only a long edge is refused with values
+abbrev pub judged : Result Short Refusal → Judgement
+judged (Ok s) = found_short (halfedge_number s.partner) (vertex_number s.end)
+judged (Err R.Dead) = found_dead
+judged (Err R.OpenFan) = found_open
+judged (Err R.Stopped) = found_missing
+judged (Err r) = found_long (refused r)
 
 abbrev pub short_or : ℕ → ℕ → Said → Judgement
 short_or p v s = cond (eqb s.number 0) (found_short p v) (found_long s)

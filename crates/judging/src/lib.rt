@@ -8,8 +8,9 @@ ghost use Rattle.floats.specs.Short.{length_said};
 ghost use Rattle.steps.specs.Steps.{InUse, VerticesIn};
 ghost use Rattle.judging.specs.Judge.{vector, between, judged, judge};
 
-use floats::{Length, Vec3};
+use floats::Vec3;
 use numbers::{Halfedge, Vertex};
+use refused::Refusal;
 
 // What short means: an edge that ends before first_new_vert is held against tol, another against epsilon.
 #[derive(Clone, Copy)]
@@ -19,15 +20,11 @@ pub struct Tolerance {
     pub epsilon: f64,
 }
 
-// How an edge is judged: it is short, with its partner and its end; long, with squared length and limit; it has no pair; the fan of its
-// start is open; or a row isn't there.
+// An edge that is short: its partner, and the vertex where it ends.
 #[derive(Clone, Copy)]
-pub enum Judged {
-    Short(Halfedge, Vertex),
-    Long(f64, f64),
-    Dead,
-    Open,
-    Missing,
+pub struct Short {
+    pub partner: Halfedge,
+    pub end: Vertex,
 }
 
 // The position of v as a vector.
@@ -40,7 +37,7 @@ fn place(positions: &[u64], v: Vertex) -> Vec3
 }
 
 // The short test between the positions of u and v, of which v is the end.
-fn between(positions: &[u64], tolerance: Tolerance, u: Vertex, v: Vertex) -> Length
+fn between(positions: &[u64], tolerance: Tolerance, u: Vertex, v: Vertex) -> Result<(), Refusal>
     requires { (vertex_number u < lent_triples positions.now) × ((vertex_number v < lent_triples positions.now) × (vertex_number v < 2 ^ 31)) }
     ensures { length_said result ≡ between positions.now tolerance (vertex_number u) (vertex_number v) }
 {
@@ -51,7 +48,8 @@ fn between(positions: &[u64], tolerance: Tolerance, u: Vertex, v: Vertex) -> Len
     floats::short_test(from, to, end, first, tolerance.tol, tolerance.epsilon)
 }
 
-// Judges the edge, before anything is written.
+// Whether the edge is short, before anything is written. Else it has no pair: Dead; it is long; the fan of its start is open; or a row isn't
+// there: Stopped.
 pub fn judge(
     rows: &[i32],
     positions: &[u64],
@@ -59,27 +57,19 @@ pub fn judge(
     vertices: usize,
     tolerance: Tolerance,
     e: Halfedge,
-) -> Judged
+) -> Result<Short, Refusal>
     requires { (halfedge_number e < halfedges) × (InUse halfedges rows.now × VerticesIn vertices positions.now) }
     ensures { judged result ≡ judge halfedges vertices rows.now positions.now tolerance (halfedge_number e) }
 {
     if !edgetests::is_paired(rows, e) {
-        return Judged::Dead;
+        return Err(Refusal::Dead);
     }
-    let Some(p) = rows::halfedges::pair_of(rows, e, halfedges) else {
-        return Judged::Missing;
-    };
-    let Some(u) = rows::halfedges::start_of(rows, e, vertices) else {
-        return Judged::Missing;
-    };
-    let Some(v) = rows::halfedges::end_of(rows, e, vertices) else {
-        return Judged::Missing;
-    };
-    if !edgetests::is_paired(rows, p.next()) {
-        return Judged::Open;
+    let partner = rows::halfedges::pair_of(rows, e, halfedges).ok_or(Refusal::Stopped)?;
+    let start = rows::halfedges::start_of(rows, e, vertices).ok_or(Refusal::Stopped)?;
+    let end = rows::halfedges::end_of(rows, e, vertices).ok_or(Refusal::Stopped)?;
+    if !edgetests::is_paired(rows, partner.next()) {
+        return Err(Refusal::OpenFan);
     }
-    match between(positions, tolerance, u, v) {
-        Length::Short => Judged::Short(p, v),
-        Length::Long(length, limit) => Judged::Long(length, limit),
-    }
+    between(positions, tolerance, start, end)?;
+    Ok(Short { partner, end })
 }

@@ -1,6 +1,5 @@
 -- What each exported function that repairs a net tells its caller of what was said: the number, and each value that came with it; 0 for a
 -- value that did not come.
-use Rattle.std.specs.Prelude.{ℕ}
 use Rattle.answers.specs.Answers.{Said, value}
 use Rattle.told.specs.Told.{bits, count_on}
 use Rattle.repairtold.specs.declared.DedupeEdgeAnswer.{DedupeEdgeAnswer}
@@ -11,24 +10,12 @@ use Rattle.repairtold.specs.declared.CollapseEdgeAnswer.{CollapseEdgeAnswer}
 abbrev pub edge_told : Said → DedupeEdgeAnswer
 edge_told s = record { number = s.number; row = count_on 3 s 0; halfedges = count_on 0 s 0; vertices = count_on 0 s 1 }
 
-abbrev pub edge_refused : ℕ → DedupeEdgeAnswer
-edge_refused number = record { number = number; row = 0; halfedges = 0; vertices = 0 }
-
 abbrev pub edges_told : Said → DedupeEdgesAnswer
 edges_told s = record { number = s.number; row = count_on 3 s 0; halfedges = count_on 0 s 0; vertices = count_on 0 s 1 }
-
-abbrev pub edges_refused : ℕ → DedupeEdgesAnswer
-edges_refused number = record { number = number; row = 0; halfedges = 0; vertices = 0 }
 
 abbrev pub cleanup_told : Said → CleanupTopologyAnswer
 cleanup_told s = record { number = s.number; row = count_on 3 s 0; halfedges = count_on 0 s 0; vertices = count_on 0 s 1 }
 
-abbrev pub cleanup_refused : ℕ → CleanupTopologyAnswer
-cleanup_refused number = record { number = number; row = 0; halfedges = 0; vertices = 0 }
-
 abbrev pub collapse_told : Said → CollapseEdgeAnswer
 collapse_told s =
     record { number = s.number; row = count_on 3 s 0; vertices = count_on 0 s 0; squared_length = bits (value s.values 0); limit = bits (value s.values 1) }
-
-abbrev pub collapse_refused : ℕ → CollapseEdgeAnswer
-collapse_refused number = record { number = number; row = 0; vertices = 0; squared_length = 0; limit = 0 }

@@ -1,7 +1,6 @@
 -- A turn of each loop, and its ways out: what is left of the listing, and of the search in the list, is the whole of it. What is listed is
 -- in use.
 use mathlib.Core.Path.{◌≡◌, refl, sym, ap, ◌∙◌}
-use mathlib.Core.Bool.{true, false}
 use mathlib.Core.List.{List, [], ◌∷◌, ◌++◌, append-nil}
 use Prim.Native.Nat.{ℕ, zero, suc, ◌+◌, ◌-◌, ◌%◌, ◌<◌, ◌≤◌}
 use native.Mathlib.Numerals.{add-one}
@@ -10,6 +9,9 @@ use borrow.Author.Tests.{eq-eqb, ne_eqb, ltb-true, ltb-false}
 use lib.Dec.{eqb, ltb}
 use lib.IntN.{ℤ}
 use lib.ListN.{length, get_or, set, take, drop, length-set, length-append, get_or-append}
+use Rattle.std.specs.List.{position_from}
+use Rattle.std.proofs.lemmas.List.{drop_more, length-take-le, get_or-take}
+use Rattle.std.proofs.lemmas.Grind.{get_or_default_zero}
 use lib.Seq.{take-suc-set, drop-set-lt, append_snoc, get_or-append-add}
 use Rattle.laws.specs.Integers.{eq_z}
 use Rattle.laws.proofs.Tests.{by_test}
@@ -18,7 +20,7 @@ use Rattle.numbers.specs.Next.{next}
 use Rattle.numbers.proofs.NextLaws.{next_in}
 use Rattle.numbers.proofs.Names.{at_inj, names_below, nothing_not_at}
 use Rattle.rows.specs.Halfedges.{end_of, pair_of}
-use Rattle.rings.specs.Ring.{Listing, ringed, endless, listed_first, AllIn, ring, find}
+use Rattle.rings.specs.Ring.{Listing, ringed, endless, listed_first, AllIn, ring, hit, find}
 
 -- ---- the listing: what was listed so far, put before what is still to come
 abbrev before : List ℕ → Listing → Listing
@@ -118,20 +120,15 @@ module _ (H to : ℕ) (rows : List ℤ) where
 
 -- ---- the search in the list
 module _ (rows : List ℤ) (z : ℤ) (list : List ℕ) where
-  pub find_hit : (n k : ℕ) → 0 < n → eq_z z (end_of rows (get_or list k 0)) ≡ true → at k ≡ find rows z list k n
+  -- the first of the entries that ends there, as `position` finds it, is the first that the search finds
+  pub found : (n k : ℕ) → k + n ≤ length list → hit (position_from (λ g. eq_z z (end_of rows g)) k (take n (drop k list))) ≡ find rows z list k n
   unfolding find
-  find_hit zero k b t = absurd (omega arith)
-  find_hit (suc n) k b t = rw t
-
-  pub find_on : (n k : ℕ) → 0 < n → eq_z z (end_of rows (get_or list k 0)) ≡ false → find rows z list (k + 1) (n - 1) ≡ find rows z list k n
-  unfolding find
-  find_on zero k b t = absurd (omega arith)
-  find_on (suc n) k b t = let d : suc n - 1 ≡ n = omega arith in rw (t, d)
-
-  pub find_none : (n k : ℕ) → n ≡ 0 → nothing ≡ find rows z list k n
-  unfolding find
-  find_none zero k b = refl
-  find_none (suc n) k b = absurd (omega arith)
+  found zero k b = refl
+  found (suc n) k b =
+      rw (drop_more list k 0 (omega arith))
+      (by_test (eq_z z (end_of rows (get_or list k 0)))
+      (λ t. rw t)
+      (λ t. rw t (found n (k + 1) (omega arith))))
 
   -- what is found is one of them
   pub find_below : (n k : ℕ) {j : ℕ} → find rows z list k n ≡ at j → j < k + n
@@ -141,6 +138,12 @@ module _ (rows : List ℤ) (z : ℤ) (list : List ℕ) where
       by_test (eq_z z (end_of rows (get_or list k 0)))
       (λ t. let i = at_inj (rw t at e) in omega arith)
       (λ t. let i = find_below n (k + 1) (rw t at e) in omega arith)
+
+-- each of the first entries is in use
+pub below_taken : (H n : ℕ) (list : List ℕ) → n ≤ length list → AllIn H list → (k d : ℕ) → k < length (take n list) → get_or (take n list) k d < H
+below_taken H n list l a k d i =
+    let b : k < n = omega (arith, i, length-take-le n list l) in
+    rw (get_or-take n list k d b, get_or_default_zero list k d (omega arith)) (a k (omega arith))
 
 -- what is listed is in use
 abbrev pub ListingIn : ℕ → Listing → Type 0

@@ -10,53 +10,31 @@ ghost use Rattle.rings.specs.Ring.{listing, AllIn, ListedIn, ring, hit, find};
 
 use numbers::Halfedge;
 
-// How many neighbours were listed, or that the walk never ends.
-#[derive(Clone, Copy)]
-pub enum Ring {
-    Listed(usize),
-    Endless,
-}
-
-// Where in the list.
-#[derive(Clone, Copy)]
-pub enum Hit {
-    At(usize),
-    Nothing,
-}
-
-// Lists the neighbours of the vertex where `from` ends: from each half-edge its next, then on to the partner, until `to`.
+// Lists the neighbours of the vertex where `from` ends: from each half-edge its next, then on to the partner, until `to`. How many were
+// listed, or None where the walk never ends.
 pub fn list_ring(
     rows: &[i32],
     list: &mut [u32],
     halfedges: usize,
     from: Halfedge,
     to: Halfedge,
-) -> Ring
+) -> Option<usize>
     requires { (halfedge_number from < halfedges) × (InUse halfedges rows.now × (halfedges ≤ length list.old)) }
     ensures { (listing result list.new ≡ ring halfedges (halfedge_number to) rows.now halfedges (halfedge_number from)) × (ListedIn halfedges result list.new × (drop halfedges list.new ≡ drop halfedges list.old)) }
 {
     let mut at = from;
-    let mut n = 0;
-    while n < halfedges {
+    for n in 0..halfedges {
         if at == to {
-            return Ring::Listed(n);
+            return Some(n);
         }
         let h = at.next();
         list[n] = h.number() as u32;
-        n += 1;
-        match rows::halfedges::pair_of(rows, h, halfedges) {
-            Some(p) => {
-                at = p;
-            }
-            None => {
-                return Ring::Listed(n);
-            }
-        }
+        let Some(p) = rows::halfedges::pair_of(rows, h, halfedges) else {
+            return Some(n + 1);
+        };
+        at = p;
     }
-    if at == to {
-        return Ring::Listed(n);
-    }
-    Ring::Endless
+    if at == to { Some(halfedges) } else { None }
 }
 
 // The half-edge at place k of the list.
@@ -67,18 +45,13 @@ pub fn entry(list: &[u32], k: usize) -> Halfedge
     numbers::halfedge_counted(list[k] as usize)
 }
 
-// The first of `len` entries that ends where h does.
-pub fn find(rows: &[i32], list: &[u32], halfedges: usize, len: usize, h: Halfedge) -> Hit
+// The place of the first of `len` entries that ends where h does.
+pub fn find(rows: &[i32], list: &[u32], halfedges: usize, len: usize, h: Halfedge) -> Option<usize>
     requires { (halfedge_number h < halfedges) × (InUse halfedges rows.now × ((len ≤ length list.now) × AllIn halfedges list.now)) }
     ensures { hit result ≡ find rows.now (end_of rows.now (halfedge_number h)) list.now 0 len }
 {
-    let mut k = 0;
-    while k < len {
-        let g = entry(list, k);
-        if edgetests::same_end(rows, h, g) {
-            return Hit::At(k);
-        }
-        k += 1;
-    }
-    Hit::Nothing
+    list[..len].iter().position(|&g| {
+        let listed = numbers::halfedge_counted(g as usize);
+        edgetests::same_end(rows, h, listed)
+    })
 }

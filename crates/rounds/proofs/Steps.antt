@@ -6,8 +6,8 @@ use Prim.Native.Nat.{ℕ, zero, suc, ◌+◌, ◌-◌, ◌≤◌, ◌<◌}
 use native.Mathlib.Numerals.{add-one}
 use native.Mathlib.Omega.{arith}
 use lib.Dec.{eqb}
-use lib.ListN.{length, get_or, take, drop, drop_of_length-le}
-use lib.Seq.{drop-cons, get_or-take}
+use lib.ListN.{length, get_or, drop, drop_of_length-le}
+use lib.Seq.{drop-cons}
 use Rattle.laws.proofs.Tests.{by_test}
 use Rattle.growth.specs.declared.Limits.{Limits}
 use Rattle.growth.specs.Growth.{Growing, halted}
@@ -15,14 +15,11 @@ use Rattle.rounds.specs.Rounds.{fix, each, no_entry, to_do, Rounded, rounded, ro
 
 module _ (l : Limits) where
   -- the entries of a list
-  pub each_on : (list : List ℕ) (count k : ℕ) (w : Growing) → k < count → count ≤ length list → length (take count list) ≡ count
-      → each l (drop (k + 1) (take count list)) (fix l (get_or list k 0) w) ≡ each l (drop k (take count list)) w
+  pub each_on : (ds : List ℕ) (k : ℕ) (w : Growing) → k < length ds → each l (drop (k + 1) ds) (fix l (get_or ds k 0) w) ≡ each l (drop k ds) w
   unfolding each
-  each_on list count k w b m e =
-      let z : k < length (take count list) = omega arith in
-      ap (λ (d : ℕ). each l (drop (k + 1) (take count list)) (fix l d w)) (sym (get_or-take count list k 0 b))
-      ∙ ap (λ (j : ℕ). each l (drop j (take count list)) (fix l (get_or (take count list) k 0) w)) (add-one k)
-      ∙ ap (λ (ds : List ℕ). each l ds w) (sym (drop-cons (take count list) k 0 z))
+  each_on ds k w b =
+      ap (λ (j : ℕ). each l (drop j ds) (fix l (get_or ds k 0) w)) (add-one k)
+      ∙ ap (λ (es : List ℕ). each l es w) (sym (drop-cons ds k 0 b))
 
   pub each_done : (ds : List ℕ) (k : ℕ) (w : Growing) → length ds ≤ k → w ≡ each l (drop k ds) w
   unfolding each

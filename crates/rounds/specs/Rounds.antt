@@ -6,8 +6,8 @@ use Rattle.growth.specs.Growth.{Growing, so_far, rows_of, halted}
 use Rattle.searches.specs.Duplicates.{duplicates, still}
 use Rattle.dedupe.specs.Dedupe.{dedupe_at}
 use Rattle.rounds.specs.declared.Rounded.{Rounded as RoundsEnd}
-use Rattle.rounds.specs.declared.Made.{Made}
-use Rattle.rounds.specs.declared.Made.TheVariants as M
+use Rattle.std.specs.declared.ops.ControlFlow.{ControlFlow}
+use Rattle.std.specs.declared.ops.ControlFlow.TheVariants.{Continue, Break}
 
 -- ---- a round, and the rounds: at most n more
 -- one entry of the list: an earlier one may have mended it
@@ -55,10 +55,10 @@ round l w =
 abbrev pub ended_as : List ℤ → List ℕ → List ℕ → List ℤ → RoundsEnd → Rounded
 ended_as rows positions normals references r = rounded (so_far rows positions normals references r.grown) r.clean
 
-abbrev pub made_as : List ℤ → List ℕ → List ℕ → List ℤ → Made → Went
-made_as rows positions normals references (M.Last r) = last (ended_as rows positions normals references r)
-made_as rows positions normals references (M.On g) = on (so_far rows positions normals references g)
+abbrev pub made_as : List ℤ → List ℕ → List ℕ → List ℤ → ControlFlow RoundsEnd Grown → Went
+made_as rows positions normals references (Break r) = last (ended_as rows positions normals references r)
+made_as rows positions normals references (Continue g) = on (so_far rows positions normals references g)
 
-abbrev pub grown_of : Made → Grown
-grown_of (M.Last r) = r.grown
-grown_of (M.On g) = g
+abbrev pub grown_of : ControlFlow RoundsEnd Grown → Grown
+grown_of (Break r) = r.grown
+grown_of (Continue g) = g

@@ -9,19 +9,13 @@ ghost use Rattle.rounds.specs.Rounds.{fix, each, made_as, grown_of, round, ended
 
 use growth::{Grown, Limits};
 use numbers::Halfedge;
+use std::ops::ControlFlow;
 
 // How the rounds end: the net, and whether it is clean.
 #[derive(Clone, Copy)]
 pub struct Rounded {
     pub grown: Grown,
     pub clean: bool,
-}
-
-// A round was the last, or the rounds go on.
-#[derive(Clone, Copy)]
-enum Made {
-    Last(Rounded),
-    On(Grown),
 }
 
 // One entry of the list: deduped, where it is still duplicated.
@@ -63,16 +57,14 @@ fn each(
     ensures { (so_far rows.new positions.new normals.new references.new result ≡ each limits (take count list.now) (so_far rows.old positions.old normals.old references.old grown)) × (More grown result × Fitting limits (so_far rows.new positions.new normals.new references.new result)) }
 {
     let mut at = grown;
-    let mut k = 0;
-    while k < count {
-        let e = numbers::halfedge_counted(list[k] as usize);
+    for d in &list[..count] {
+        let e = numbers::halfedge_counted(*d as usize);
         at = fix(rows, positions, normals, references, limits, at, e);
-        k += 1;
     }
     at
 }
 
-// One round, where the steps go on and there are duplicates.
+// One round, where the steps go on and there are duplicates; else it breaks off, and the rounds end.
 fn round(
     rows: &mut [i32],
     positions: &mut [u64],
@@ -82,13 +74,13 @@ fn round(
     list: &mut [u32],
     limits: Limits,
     grown: Grown,
-) -> Made
+) -> ControlFlow<Rounded, Grown>
     requires { ((limits.halfedges ≤ length work.old) × (limits.halfedges ≤ length list.old)) × Fitting limits (so_far rows.old positions.old normals.old references.old grown) }
     ensures { (made_as rows.new positions.new normals.new references.new result ≡ round limits (so_far rows.old positions.old normals.old references.old grown)) × ((More grown (grown_of result) × Fitting limits (so_far rows.new positions.new normals.new references.new (grown_of result))) × ((drop limits.halfedges work.new ≡ drop limits.halfedges work.old) × (drop limits.halfedges list.new ≡ drop limits.halfedges list.old))) }
 {
     let run = grown.run;
     if steps::refused(run) {
-        return Made::Last(Rounded {
+        return ControlFlow::Break(Rounded {
             grown: grown,
             clean: false,
         });
@@ -102,12 +94,12 @@ fn round(
         limits.halfedges,
     );
     if count == 0 {
-        return Made::Last(Rounded {
+        return ControlFlow::Break(Rounded {
             grown: grown,
             clean: true,
         });
     }
-    Made::On(each(
+    ControlFlow::Continue(each(
         rows, positions, normals, references, list, limits, grown, count,
     ))
 }
@@ -128,15 +120,13 @@ pub fn rounds(
     ensures { (ended_as rows.new positions.new normals.new references.new result ≡ rounds limits grown.halfedges (so_far rows.old positions.old normals.old references.old grown)) × ((More grown result.grown × Fitting limits (so_far rows.new positions.new normals.new references.new result.grown)) × ((drop limits.halfedges work.new ≡ drop limits.halfedges work.old) × (drop limits.halfedges list.new ≡ drop limits.halfedges list.old))) }
 {
     let mut at = grown;
-    let mut left = grown.halfedges;
-    while left > 0 {
+    for _ in 0..grown.halfedges {
         match round(rows, positions, normals, references, work, list, limits, at) {
-            Made::Last(r) => {
-                return r;
+            ControlFlow::Break(ended) => {
+                return ended;
             }
-            Made::On(g) => {
+            ControlFlow::Continue(g) => {
                 at = g;
-                left -= 1;
             }
         }
     }

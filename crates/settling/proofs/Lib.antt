@@ -2,3 +2,4 @@ pub mod Appended
 pub mod Grows
 pub mod Kept
 pub mod Entry
+pub mod Extents

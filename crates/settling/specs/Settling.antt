@@ -1,5 +1,5 @@
--- How an operation on a net that grows begins, and ends by its code: from the spare.
-use Rattle.std.specs.Prelude.{true, cond, List, [], ◌∷◌, ◌≡◌, ℕ, ◌/◌, ◌≤◌, ltb, ℤ, pos}
+-- How an operation on a net that grows begins, and ends by its code: from the spare. And what its entry answers.
+use Rattle.std.specs.Prelude.{Result, true, cond, List, [], ◌∷◌, ◌≡◌, ℕ, ◌/◌, ◌≤◌, ltb, ℤ, pos}
 use Rattle.answers.specs.Answers.{Said, whole, done, no_room, stopped}
 use Rattle.rows.specs.Halfedges.{lent_halfedges, zero_rows}
 use Rattle.rows.specs.Triples.{lent_triples, zero_triples, zero_references}
@@ -10,6 +10,9 @@ use Rattle.steps.specs.Run.{How}
 use Rattle.steps.specs.Run as W
 use Rattle.steps.specs.Steps.{begun_run, begin, with_rows}
 use Rattle.steps.specs.Settle as S
+use Rattle.refused.specs.declared.Refusal.{Refusal}
+use Rattle.refused.specs.Refused.{said}
+use Rattle.settling.specs.declared.Extent.{Extent}
 use Rattle.growth.specs.declared.Grown.{Grown}
 use Rattle.growth.specs.declared.Limits.{Limits}
 use Rattle.growth.specs.Growth.{Growing, growing, rows_of, halted}
@@ -41,6 +44,10 @@ grown_said halfedges vertices W.Stopped = stopped
 
 abbrev pub said_of_grown : Grown → Said
 said_of_grown g = grown_said g.halfedges g.run.vertices g.run.how
+
+-- what an entry answers: on 0 the half-edges and vertices in use
+abbrev pub extent_said : Result Extent Refusal → Said
+extent_said = said (λ x. whole (pos x.halfedges) ∷ whole (pos x.vertices) ∷ [])
 
 -- the end from the spare, which holds the H half-edge rows and N positions that were in use
 abbrev pub settled_by : Limits → ℕ → ℕ → List ℤ → List ℕ → Growing → Growing

@@ -1,16 +1,26 @@
 // How an operation on a net that grows begins and ends: what there can be, taken once at entry; and at the end, where a step has
-// refused, everything put back.
+// refused, everything put back. And what its entry answers.
 #![tactic(auto)]
 
-ghost use Rattle.std.specs.Prelude.{◌≡◌, true, cond, ◌/◌, ◌≤◌};
+ghost use Rattle.std.specs.Prelude.{◌≡◌, true, cond, ◌*◌, ◌/◌, ◌≤◌};
+ghost use Rattle.laws.specs.Stretches.{filled};
 ghost use Rattle.rows.specs.Halfedges.{lent_halfedges};
-ghost use Rattle.rows.specs.Triples.{lent_triples, zero_triples, zero_references};
+ghost use Rattle.rows.specs.Triples.{lent_triples};
 ghost use Rattle.steps.specs.Steps.{middle};
 ghost use Rattle.growth.specs.Growth.{growing};
-ghost use Rattle.settling.specs.Settling.{begun_with, limits_over, Settles, settled_by};
+ghost use Rattle.settling.specs.Settling.{begun_with, limits_over, Settles, settled_by, extent_said, said_of_grown};
 
 use growth::{Grown, Limits};
 use net::Counts;
+use refused::Refusal;
+use steps::How;
+
+// The half-edges and vertices in use when an entry is done.
+#[derive(Clone, Copy)]
+pub struct Extent {
+    pub halfedges: usize,
+    pub vertices: usize,
+}
 
 // The capacities over what is lent, and whether triangles have normals, and references.
 pub fn limits_of(
@@ -40,26 +50,14 @@ pub fn begun(halfedges: usize, vertices: usize) -> Grown
     }
 }
 
-// The normals of triangles a up to b read zero, where there are normals.
-fn zero_normals(normals: &mut [u64], there: bool, a: usize, b: usize)
-    requires { (a ≤ b) × (there ≡ true → b ≤ lent_triples normals.old) }
-    ensures { normals.new ≡ cond there (zero_triples a b normals.old) normals.old }
+// The rows of three of triangles a up to b read zero, where there are any.
+fn zero_faces<T: Copy>(rows: &mut [T], zero: T, there: bool, a: usize, b: usize)
+    requires { (a ≤ b) × (there ≡ true → b ≤ lent_triples rows.old) }
+    ensures { rows.new ≡ cond there (filled zero (3 * a) (3 * b) rows.old) rows.old }
 {
-    if !there {
-        return;
+    if there {
+        stretches::fill(rows, zero, 3 * a, 3 * b);
     }
-    rows::triples::zero(normals, a, b);
-}
-
-// The references of triangles a up to b read zero, where there are references.
-fn zero_references(references: &mut [i32], there: bool, a: usize, b: usize)
-    requires { (a ≤ b) × (there ≡ true → b ≤ lent_triples references.old) }
-    ensures { references.new ≡ cond there (zero_references a b references.old) references.old }
-{
-    if !there {
-        return;
-    }
-    rows::triples::zero_references(references, a, b);
 }
 
 // Ends an operation: where a step has refused, the rows in use come back from the spare and the free rows that were filled read zero.
@@ -93,6 +91,21 @@ pub fn settle_grown(
         vertices,
         run,
     );
-    zero_normals(normals, limits.normals, halfedges / 3, filled / 3);
-    zero_references(references, limits.references, halfedges / 3, filled / 3);
+    zero_faces(normals, 0, limits.normals, halfedges / 3, filled / 3);
+    zero_faces(references, 0, limits.references, halfedges / 3, filled / 3);
+}
+
+// How the steps ended, as an entry says it.
+pub fn answer(grown: Grown) -> Result<Extent, Refusal>
+    ensures { extent_said result ≡ said_of_grown grown }
+{
+    let run = grown.run;
+    match run.how {
+        How::Going => Ok(Extent {
+            halfedges: grown.halfedges,
+            vertices: run.vertices,
+        }),
+        How::NoRoom => Err(Refusal::NoRoom),
+        How::Stopped => Err(Refusal::Stopped),
+    }
 }

@@ -1,7 +1,7 @@
 -- A turn of the loop about the start, and its ways out: what is left of the loop is the whole of it.
 use mathlib.Core.Path.{◌≡◌, refl}
 use Prim.Native.Nat.{ℕ, zero, suc, ◌+◌, ◌-◌, ◌*◌, ◌<◌, ◌≤◌}
-use native.Mathlib.Nat.{suc-mul}
+use native.Mathlib.Nat.{mul-le-mul_right}
 use native.Mathlib.Omega.{arith}
 use Rattle.numbers.specs.Next.{next}
 use Rattle.steps.specs.Steps.{Middle}
@@ -35,7 +35,8 @@ module _ (s : Fixed) where
   spin_last (suc r) zero start len c m b = refl
   spin_last r (suc left) start len c m b = absurd (omega arith)
 
--- the measure: loops that may still be formed, then moves
-pub fewer : (r H left : ℕ) → 0 < r → (r - 1) * (H + 1) + H < r * (H + 1) + left
-fewer zero H left b = absurd (omega arith)
-fewer (suc r) H left b = let z : suc r - 1 ≡ r = omega arith in rw (z, suc-mul r (H + 1)) (omega arith)
+-- the measure: entries that are left of the list, then moves
+pub fewer : (k len H left : ℕ) → k < len → k * (H + 1) + H < len * (H + 1) + left
+fewer k len H left b =
+    let m : (k + 1) * (H + 1) ≤ len * (H + 1) = mul-le-mul_right (H + 1) (omega arith) in
+    omega (arith, m)

@@ -11,7 +11,6 @@ ghost use Rattle.rings.specs.Ring.{AllIn};
 ghost use Rattle.spinning.specs.Spin.{turned, Ready, fixed, Around, turn_at, turn_once, tired, spun_to, spin};
 
 use numbers::Halfedge;
-use rings::Hit;
 use steps::Run;
 
 // What stays the same while the loop turns: the half-edges in use, the vertex capacity, whether props are carried, the edge and its
@@ -57,7 +56,7 @@ fn turn_at(
     let Some(q) = rows::halfedges::pair_of(rows, h, halfedges) else {
         return Turn::Out(run);
     };
-    let Hit::At(k) = rings::find(rows, list, halfedges, len, h) else {
+    let Some(k) = rings::find(rows, list, halfedges, len, h) else {
         return Turn::On(run, q);
     };
     let g = rings::entry(list, k);
@@ -83,7 +82,7 @@ fn turn_once(
         return Turn::Out(run);
     }
     let e = ends.edge;
-    if at.number() == e.next().next().number() {
+    if at == e.next().next() {
         return Turn::Out(run);
     }
     let p = ends.partner;
@@ -131,15 +130,11 @@ pub fn spin(
     let mut at = first;
     let mut start = first;
     let mut len = list.len();
-    let mut loops = list.len();
     let mut left = ends.halfedges;
     while 0 < left {
         match turn_once(rows, positions, references, list, ends, run, len, at) {
             Turn::Out(r) => {
-                return Last {
-                    run: r,
-                    start: start,
-                };
+                return Last { run: r, start };
             }
             Turn::On(r, q) => {
                 run = r;
@@ -151,7 +146,6 @@ pub fn spin(
                 at = q;
                 start = q;
                 len = k;
-                loops -= 1;
                 left = ends.halfedges;
             }
         }
@@ -159,6 +153,6 @@ pub fn spin(
     let e = ends.edge;
     Last {
         run: tired(run, e.next().next(), at),
-        start: start,
+        start,
     }
 }

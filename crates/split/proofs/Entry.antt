@@ -4,10 +4,10 @@ use mathlib.Core.Bool.{true, false}
 use mathlib.Core.List.{List}
 use Prim.Native.Nat.{ℕ, ◌+◌, ◌≤◌}
 use borrow.Author.Tests.{leb-true}
-use lib.ListN.{length}
 use lib.Dec.{eqb}
+use lib.ListN.{length}
 use Rattle.std.specs.Prelude.{⊤, Ok}
-use Rattle.answers.specs.Answers.{Said, shape, short_buffer}
+use Rattle.answers.specs.Answers.{Said, shape, short_buffer, unsound}
 use Rattle.laws.proofs.Tests.{and2}
 use Rattle.numbers.specs.Numbers.{Named, at, nothing}
 use Rattle.refused.specs.declared.Refusal.{Refusal}
@@ -21,7 +21,7 @@ use Rattle.net.proofs.Shape.{shaped_yes}
 use Rattle.rowtests.specs.Order.{least_out}
 use Rattle.soundness.specs.Check.{sound_or}
 use Rattle.soundness.proofs.Told.{nothing_out}
-use Rattle.splitting.specs.Split.{split_outcome, split_sound, by_order, buffers_long, split_pinched}
+use Rattle.splitting.specs.Split.{split_outcome, split_sound, buffers_long, split_pinched}
 
 -- a check that says done found no row out of order
 pub none_out : (w : Named) {x : ⊤} → plain_said (Ok x) ≡ sound_or w → w ≡ nothing
@@ -37,14 +37,19 @@ module _ (c : Counts) (n : Net) (work visit : List ℕ) where
   unfolding split_pinched
   said_short e f = rw (e, f)
 
+  pub said_unsound : is_shaped c n ≡ true → buffers_long c.halfedges c.vertices work visit ≡ true → (h : ℕ) → least_out c.halfedges c.vertices n.halfedges ≡ at h
+      → split_outcome (unsound h) n.halfedges n.positions work visit ≡ split_pinched c n work visit
+  unfolding split_pinched
+  said_unsound e f h g = rw (e, f, g)
+
+  -- whatever check_rows refuses
   pub said_refused : is_shaped c n ≡ true → buffers_long c.halfedges c.vertices work visit ≡ true → (r : Refusal) → refused r ≡ sound_or (least_out c.halfedges c.vertices n.halfedges)
       → split_outcome (refused r) n.halfedges n.positions work visit ≡ split_pinched c n work visit
-  unfolding split_pinched
-  said_refused e f r g = rw (e, f) (go (least_out c.halfedges c.vertices n.halfedges) g)
+  said_refused e f r g = go (least_out c.halfedges c.vertices n.halfedges) refl g
     where
-      go : (w : Named) → refused r ≡ sound_or w → split_outcome (refused r) n.halfedges n.positions work visit ≡ by_order c.halfedges c.vertices n.halfedges n.positions work visit w
-      go (at h) q = ap (λ s. split_outcome s n.halfedges n.positions work visit) q
-      go nothing q = let z : true ≡ false = ap (λ (s : Said). eqb s.number 0) (sym q) ∙ refused_number r in cc
+      go : (w : Named) → least_out c.halfedges c.vertices n.halfedges ≡ w → refused r ≡ sound_or w → split_outcome (refused r) n.halfedges n.positions work visit ≡ split_pinched c n work visit
+      go (at h) m q = ap (λ s. split_outcome s n.halfedges n.positions work visit) q ∙ said_unsound e f h m
+      go nothing m q = let z : true ≡ false = ap (λ (s : Said). eqb s.number 0) (sym q) ∙ refused_number r in cc
 
   pub said_sound : is_shaped c n ≡ true → buffers_long c.halfedges c.vertices work visit ≡ true → least_out c.halfedges c.vertices n.halfedges ≡ nothing
       → split_sound c.halfedges c.vertices n.halfedges n.positions work visit ≡ split_pinched c n work visit

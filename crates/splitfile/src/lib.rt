@@ -11,21 +11,19 @@ ghost use Rattle.splitfile.specs.Printed.{outcome_of, refused, vertices_after, s
 
 use meshfile::{MeshError, Size};
 use net::Counts;
+use refused::Refusal;
 use report::{Mesh, Outcome};
 use rows::halfedges::WIDTH;
-use splitcleared::Split;
+use splitting::Visited;
 
 // What is reported of the split's answer.
-fn outcome_of(answer: Split) -> Outcome
+fn outcome_of(answer: Result<Visited, Refusal>) -> Outcome
     ensures { result ≡ outcome_of (split_said answer) }
 {
     match answer {
-        Split::Done(added, steps) => Outcome::Done(added, steps),
-        Split::Shape => Outcome::Refused(1),
-        Split::ShortBuffer => Outcome::Refused(2),
-        Split::Unsound(h) => Outcome::Unsound(h.number()),
-        Split::OpenFan => Outcome::Refused(9),
-        Split::NoRoom => Outcome::Refused(6),
+        Ok(visited) => Outcome::Done(visited.added, visited.steps),
+        Err(Refusal::Unsound(h)) => Outcome::Unsound(h.number()),
+        Err(refusal) => Outcome::Refused(refusal.number() as usize),
     }
 }
 

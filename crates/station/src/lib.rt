@@ -34,13 +34,13 @@ use told::{Answer, LengthAnswer, NextAnswer, Point, TriAnswer, Used};
 pub fn spoonferret_next_halfedge(h: i32) -> NextAnswer
     ensures { result ≡ next_told (next_answer h) }
 {
-    told::of_next(numbers::next_halfedge(h))
+    NextAnswer::from(numbers::next_halfedge(h))
 }
 
 pub fn spoonferret_tri_of(h: i32) -> TriAnswer
     ensures { result ≡ tri_told (tri_answer h) }
 {
-    told::of_tri(numbers::tri_of(h))
+    TriAnswer::from(numbers::tri_of(h))
 }
 
 pub fn spoonferret_short_test(
@@ -53,9 +53,9 @@ pub fn spoonferret_short_test(
 ) -> LengthAnswer
     ensures { result ≡ length_told (short_test (vector_of from) (vector_of to) end_vert first_new_vert tol epsilon) }
 {
-    told::of_length(floats::short_test(
-        told::vector_of(from),
-        told::vector_of(to),
+    LengthAnswer::from(floats::short_test(
+        from.into(),
+        to.into(),
         end_vert,
         first_new_vert,
         tol,
@@ -73,8 +73,8 @@ pub fn spoonferret_check_net(
 ) -> RowAnswer
     ensures { result ≡ row_told (check_net (counts_of used) (net halfedges.now positions.now normals.now references.now properties.now)) }
 {
-    rowtold::of_check(soundness::check_net(
-        told::counts_of(used),
+    RowAnswer::from(soundness::check_net(
+        used.into(),
         halfedges,
         positions,
         normals,
@@ -94,8 +94,8 @@ pub fn spoonferret_explain_row(
 ) -> ExplainAnswer
     ensures { result ≡ explain_told (explain_row (counts_of used) (net halfedges.now positions.now normals.now references.now properties.now) row) }
 {
-    explain::answer::of_explain(explain::explain_row(
-        told::counts_of(used),
+    ExplainAnswer::from(explain::explain_row(
+        used.into(),
         halfedges,
         positions,
         normals,
@@ -117,8 +117,8 @@ pub fn spoonferret_pair_up(
 ) -> Answer
     ensures { (result, halfedges.new) ≡ and_left told (pair_up (counts_of used) (net halfedges.old positions.now normals.now references.now properties.now) first second) }
 {
-    told::of_pair(pairing::pair_up(
-        told::counts_of(used),
+    Answer::from(pairing::pair_up(
+        used.into(),
         halfedges,
         positions,
         normals,
@@ -142,8 +142,8 @@ pub fn spoonferret_update_vert(
 ) -> UpdateAnswer
     ensures { (result, halfedges.new) ≡ and_left update_told (update_vert (counts_of used) (net halfedges.old positions.now normals.now references.now properties.now) vertex start end) }
 {
-    rowtold::of_update(updatevert::update_vert(
-        told::counts_of(used),
+    UpdateAnswer::from(updatevert::update_vert(
+        used.into(),
         halfedges,
         positions,
         normals,
@@ -166,8 +166,8 @@ pub fn spoonferret_collapse_tri(
 ) -> RowAnswer
     ensures { (result, halfedges.new) ≡ and_left row_told (collapse_tri (counts_of used) (net halfedges.old positions.now normals.now references.now properties.now) halfedge) }
 {
-    rowtold::of_collapse(collapsetri::collapse_tri(
-        told::counts_of(used),
+    RowAnswer::from(collapsetri::collapse_tri(
+        used.into(),
         halfedges,
         positions,
         normals,
@@ -188,8 +188,8 @@ pub fn spoonferret_remove_if_folded(
 ) -> RowAnswer
     ensures { (result, (halfedges.new, positions.new)) ≡ and_left row_told (remove_if_folded (counts_of used) (net halfedges.old positions.old normals.now references.now properties.now) halfedge) }
 {
-    rowtold::of_remove(removefolded::remove_if_folded(
-        told::counts_of(used),
+    RowAnswer::from(removefolded::remove_if_folded(
+        used.into(),
         halfedges,
         positions,
         normals,
@@ -214,8 +214,8 @@ pub fn spoonferret_form_loop(
     ensures { (result, halfedges.new, positions.new, spare_halfedges.new, spare_positions.new)
         ≡ loop_left (form_loop (counts_of used) (net halfedges.old positions.old normals.now references.now properties.now) spare_halfedges.old spare_positions.old first second) }
 {
-    counttold::of_loop(formloop::form_loop(
-        told::counts_of(used),
+    LoopAnswer::from(formloop::form_loop(
+        used.into(),
         halfedges,
         positions,
         normals,
@@ -242,8 +242,8 @@ pub fn spoonferret_orbit_owners(
     ensures { (result, work.new, list.new)
         ≡ owners_left (orbit_owners (eligible_of end_too) (counts_of used) (net halfedges.now positions.now normals.now references.now properties.now) work.old list.old) }
 {
-    counttold::of_owners(owners::orbit_owners(
-        told::counts_of(used),
+    OwnersAnswer::from(owners::orbit_owners(
+        used.into(),
         halfedges,
         positions,
         normals,
@@ -268,8 +268,8 @@ pub fn spoonferret_split_pinched_verts(
     ensures { (result, halfedges.new, positions.new, work.new, visit.new)
         ≡ split_left (split_pinched (counts_of used) (net halfedges.old positions.old normals.now references.now properties.now) work.old visit.old) }
 {
-    counttold::of_split(split::split_pinched_verts(
-        told::counts_of(used),
+    SplitAnswer::from(split::split_pinched_verts(
+        used.into(),
         halfedges,
         positions,
         normals,
@@ -294,8 +294,8 @@ pub fn spoonferret_dedupe_edge(
     ensures { (result, halfedges.new, positions.new, normals.new, references.new, spare_halfedges.new, spare_positions.new)
         ≡ edge_left (dedupe_edge (counts_of used) (net halfedges.old positions.old normals.old references.old properties.now) spare_halfedges.old spare_positions.old halfedge) }
 {
-    repairtold::of_edge(dedupeedge::dedupe_edge(
-        told::counts_of(used),
+    DedupeEdgeAnswer::from(dedupeedge::dedupe_edge(
+        used.into(),
         halfedges,
         positions,
         normals,
@@ -322,8 +322,8 @@ pub fn spoonferret_dedupe_edges(
     ensures { (result, halfedges.new, positions.new, normals.new, references.new, spare_halfedges.new, spare_positions.new, work.new, list.new)
         ≡ edges_left (dedupe_edges (counts_of used) (net halfedges.old positions.old normals.old references.old properties.now) spare_halfedges.old spare_positions.old work.old list.old) }
 {
-    repairtold::of_edges(dedupeedges::dedupe_edges(
-        told::counts_of(used),
+    DedupeEdgesAnswer::from(dedupeedges::dedupe_edges(
+        used.into(),
         halfedges,
         positions,
         normals,
@@ -351,8 +351,8 @@ pub fn spoonferret_cleanup_topology(
     ensures { (result, halfedges.new, positions.new, normals.new, references.new, spare_halfedges.new, spare_positions.new, work.new, list.new)
         ≡ cleanup_left (cleanup_topology (counts_of used) (net halfedges.old positions.old normals.old references.old properties.now) spare_halfedges.old spare_positions.old work.old list.old) }
 {
-    repairtold::of_cleanup(cleanup::cleanup_topology(
-        told::counts_of(used),
+    CleanupTopologyAnswer::from(cleanup::cleanup_topology(
+        used.into(),
         halfedges,
         positions,
         normals,
@@ -383,8 +383,8 @@ pub fn spoonferret_collapse_edge(
     ensures { (result, halfedges.new, positions.new, spare_halfedges.new, spare_positions.new, list.new)
         ≡ collapse_left (collapse_edge (counts_of used) (net halfedges.old positions.old normals.now references.now properties.now) spare_halfedges.old spare_positions.old list.old halfedge (tolerance first_new_vert tol epsilon)) }
 {
-    repairtold::of_collapse(collapse::collapse_edge(
-        told::counts_of(used),
+    CollapseEdgeAnswer::from(collapse::collapse_edge(
+        used.into(),
         halfedges,
         positions,
         normals,

@@ -1,3 +1,2 @@
 pub mod Least
-pub mod Walks
 pub mod Tabling

@@ -11,6 +11,7 @@ ghost use Rattle.searches.specs.Duplicates.{fan};
 ghost use Rattle.duplicates.specs.Scan.{entries, push_all, picked, scan, found};
 ghost use Rattle.tables.specs.Table.{table, lesser, enter, enter_all, is_over, clear_at, clear_all, is_done, table_row};
 
+use duplicates::fans::Fan;
 use numbers::Halfedge;
 
 // Of what stands at a vertex and c, the less.
@@ -45,17 +46,11 @@ fn enter_fan(rows: &[i32], work: &mut [u32], halfedges: usize, vertices: usize, 
     requires { (halfedge_number i < halfedges) × (InUse halfedges rows.now × ((halfedges ≤ length work.old) × (vertices ≤ length work.old))) }
     ensures { table work.new result ≡ enter_all vertices rows.now (fan halfedges rows.now (halfedge_number i)) (table work.old false) }
 {
-    let mut c = i;
-    let mut left = halfedges;
     let mut twice = false;
-    loop {
+    for c in Fan::of(rows, halfedges, i) {
         twice = enter(rows, work, vertices, twice, c);
-        let Some(q) = duplicates::turn_on(rows, halfedges, i, left, c) else {
-            return twice;
-        };
-        c = q;
-        left -= 1;
     }
+    twice
 }
 
 // c is not the least at its end.
@@ -67,34 +62,6 @@ fn is_over(rows: &[i32], work: &[u32], vertices: usize, c: Halfedge) -> bool
         return false;
     };
     workentries::entry_at(work, end.number()) != c.number() + 1
-}
-
-// Lists those of the fan of i that are not the least at their end behind the entries. How many there are then.
-fn push_fan(
-    rows: &[i32],
-    work: &[u32],
-    list: &mut [u32],
-    halfedges: usize,
-    vertices: usize,
-    capacity: usize,
-    count: usize,
-    i: Halfedge,
-) -> usize
-    requires { (halfedge_number i < halfedges) × (InUse halfedges rows.now × ((vertices ≤ length work.now) × (capacity ≤ length list.old))) }
-    ensures { entries list.new result ≡ push_all capacity (picked (is_over vertices rows.now work.now) (fan halfedges rows.now (halfedge_number i))) (entries list.old count) }
-{
-    let mut c = i;
-    let mut left = halfedges;
-    let mut n = count;
-    loop {
-        let there = is_over(rows, work, vertices, c);
-        n = duplicates::push_if(list, capacity, n, there, c);
-        let Some(q) = duplicates::turn_on(rows, halfedges, i, left, c) else {
-            return n;
-        };
-        c = q;
-        left -= 1;
-    }
 }
 
 // Takes back what c has entered.
@@ -113,15 +80,8 @@ fn clear_fan(rows: &[i32], work: &mut [u32], halfedges: usize, vertices: usize, 
     requires { (halfedge_number i < halfedges) × (InUse halfedges rows.now × (vertices ≤ length work.old)) }
     ensures { work.new ≡ clear_all vertices rows.now (fan halfedges rows.now (halfedge_number i)) work.old }
 {
-    let mut c = i;
-    let mut left = halfedges;
-    loop {
+    for c in Fan::of(rows, halfedges, i) {
         clear(rows, work, vertices, c);
-        let Some(q) = duplicates::turn_on(rows, halfedges, i, left, c) else {
-            return;
-        };
-        c = q;
-        left -= 1;
     }
 }
 
@@ -134,7 +94,7 @@ fn is_done(rows: &[i32], work: &[u32], h: Halfedge) -> bool
         | !(edgetests::is_started(rows, h) & edgetests::is_ended(rows, h))
 }
 
-// The fan of h, where some vertex was entered twice: its duplicates are listed. How many entries there are then.
+// The fan of h, where some vertex was entered twice: those that are not the least at their end are listed behind the entries. How many entries there are then.
 fn push_if_twice(
     rows: &[i32],
     work: &[u32],
@@ -152,7 +112,9 @@ fn push_if_twice(
     if !twice {
         return count;
     }
-    push_fan(rows, work, list, halfedges, vertices, capacity, count, h)
+    duplicates::push_fan(rows, list, halfedges, capacity, count, h, |c| {
+        is_over(rows, work, vertices, c)
+    })
 }
 
 // Walks the fan of h, where it is not done: marks it, and lists its duplicates behind the entries. How many there are then.
@@ -193,11 +155,9 @@ fn table_rows(
     ensures { (entries list.new result ≡ found halfedges vertices capacity rows.now list.old) × (drop capacity work.new ≡ drop capacity work.old) }
 {
     let mut count = 0;
-    let mut i = 0;
-    while i < halfedges {
+    for i in 0..halfedges {
         let h = numbers::halfedge_counted(i);
         count = table_row(rows, work, list, halfedges, vertices, capacity, count, h);
-        i += 1;
     }
     count
 }

@@ -9,12 +9,6 @@ pub returns-then-not-props : goal.returns-then-not-props
 unfolding carried
 returns-then-not-props c = rw c.if-not-props.true
 
-pub same_reference-requires : goal.same_reference-requires
-same_reference-requires c =
-    let p = c.requires in
-    let f = p.1.1 c.if-not-props.false in
-    (omega (arith, f, c.number-t.ensures, p.0.1.1), omega (arith, f, c.number.ensures, p.0.0))
-
 pub copy_prop-requires : goal.copy_prop-requires
 copy_prop-requires c =
     let p = c.requires in
@@ -26,12 +20,6 @@ unfolding carried
 returns-then-same_reference c =
     let t = rw (c.number-t.ensures, c.number.ensures) at (sym c.same_reference.ensures ∙ c.if-same_reference.true) in
     rw (c.if-not-props.false, t, ← c.next-n.ensures) c.copy_prop.ensures
-
-pub same_reference-requires-2 : goal.same_reference-requires-2
-same_reference-requires-2 c =
-    let p = c.requires in
-    let f = p.1.1 c.if-not-props.false in
-    (omega (arith, f, c.number-t.ensures, p.0.1.1), omega (arith, f, c.number-2.ensures, p.0.1.0))
 
 pub returns-then-same_reference-2 : goal.returns-then-same_reference-2
 unfolding carried

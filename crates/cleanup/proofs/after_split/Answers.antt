@@ -1,24 +1,13 @@
--- `cleanup::after_split` meets its contract, case by case.
+-- `cleanup::after_split` meets its contract: a refusal's number is not 0.
 use native.Mathlib.Omega.{arith}
+use Rattle.refused.proofs.Laws.{refused_number}
 use Rattle.cleanup.proofs.after_split.Goals as goal
 
 pub overflow_add-vertices : goal.overflow_add-vertices
-overflow_add-vertices c = let b = rw c.in-Done.is at c.requires in omega (arith, b)
+overflow_add-vertices c = let b = rw c.in-Ok.is at c.requires in record { fits = omega (arith, b) }
 
-pub returns-in-Done : goal.returns-in-Done
-returns-in-Done c = rw (c.in-Done.is, c.begun-in-Done.ensures)
+pub returns-in-Ok : goal.returns-in-Ok
+returns-in-Ok c = rw (c.in-Ok.is, c.begun.ensures)
 
-pub returns-in-Shape : goal.returns-in-Shape
-returns-in-Shape c = rw (c.in-Shape.is, c.no_room-full.ensures, c.begun.ensures)
-
-pub returns-in-ShortBuffer : goal.returns-in-ShortBuffer
-returns-in-ShortBuffer c = rw (c.in-ShortBuffer.is, c.no_room-full.ensures, c.begun.ensures)
-
-pub returns-in-Unsound : goal.returns-in-Unsound
-returns-in-Unsound c = rw (c.in-Unsound.is, c.no_room-full.ensures, c.begun.ensures)
-
-pub returns-in-OpenFan : goal.returns-in-OpenFan
-returns-in-OpenFan c = rw (c.in-OpenFan.is, c.no_room-full.ensures, c.begun.ensures)
-
-pub returns-in-NoRoom : goal.returns-in-NoRoom
-returns-in-NoRoom c = rw (c.in-NoRoom.is, c.no_room-full.ensures, c.begun.ensures)
+pub returns-in-Err : goal.returns-in-Err
+returns-in-Err c = rw (c.in-Err.is, c.no_room.ensures, c.begun.ensures, refused_number c.in-Err.field-0)

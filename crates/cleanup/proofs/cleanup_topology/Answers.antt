@@ -8,6 +8,8 @@ use Rattle.net.specs.Net.{net}
 use Rattle.net.proofs.Shape.{shaped_yes, within}
 use Rattle.splitting.proofs.Net.{sound_rows}
 use Rattle.split.proofs.Entry.{sound_here}
+use Rattle.std.proofs.lemmas.Result.{err_from_is_err_and}
+use Rattle.refused.proofs.Laws.{refused_number}
 use Rattle.settling.proofs.Entry.{begun_fits}
 use Rattle.cleanup.specs.Cleanup.{cleanup_topology}
 use Rattle.cleanup.proofs.cleanup_topology.Goals as goal
@@ -25,8 +27,8 @@ pub returns-then-not-enough : goal.returns-then-not-enough
 unfolding cleanup_topology
 returns-then-not-enough c = rw (← c.shaped.ensures, c.if-not-shaped.false, ← (rw c.limits_of-limits.ensures at c.enough.ensures), c.if-not-enough.true)
 
-pub first_out-requires : goal.first_out-requires
-first_out-requires c =
+pub check_rows-requires : goal.check_rows-requires
+check_rows-requires c =
     let w = within _ _ (shaped_yes _ _ (sym c.shaped.ensures ∙ c.if-not-shaped.false)) in
     (w.halfedges_thirds, (w.halfedges_lent, w.halfedges_most))
 
@@ -40,20 +42,14 @@ clean_at-requires c =
     let v = and2 _ _ u.0 in
     ((sound_rows s.counts n o, rw c.limits_of-limits.ensures), ((rw c.limits_of-limits.ensures (begun_fits _ _ o.shaped)), record { halfedges_spared = leb-true _ _ v.0; positions_spared = leb-true _ _ v.1; capacity_long = omega arith; work_long = leb-true _ _ u.1; list_long = leb-true _ _ t.1 }))
 
-pub returns-in-Some : goal.returns-in-Some
+pub returns-in_err-check_rows : goal.returns-in_err-check_rows
 unfolding cleanup_topology
-returns-in-Some c = rw (← c.shaped.ensures, c.if-not-shaped.false, ← (rw c.limits_of-limits.ensures at c.enough.ensures), c.if-not-enough.false, ← c.first_out.ensures, c.in-Some.is)
+returns-in_err-check_rows c =
+    let p = err_from_is_err_and c.from_residual.result c.from_residual.ensures.1 in
+    rw (p.1, p.2, ← c.shaped.ensures, c.if-not-shaped.false, ← (rw c.limits_of-limits.ensures at c.enough.ensures), c.if-not-enough.false, ← (rw c.in_err-check_rows.was at c.check_rows.ensures), refused_number c.in_err-check_rows.field-0.0)
 
-pub returns-in-None : goal.returns-in-None
+pub returns : goal.returns
 unfolding cleanup_topology
-returns-in-None c =
-    let at_shaped = c.shaped in
-    let at_if1 = c.if-not-shaped in
-    let at_limits_of = c.limits_of-limits in
-    let at_enough = c.enough in
-    let at_if2 = c.if-not-enough in
-    let at_first_out = c.first_out in
-    let at_enum_told = c.in-None in
-    let at_clean_at = c.clean_at in
-    rw (← at_shaped.ensures, c.if-not-shaped.false, ← (rw at_limits_of.ensures at at_enough.ensures), c.if-not-enough.false, ← at_first_out.ensures, c.in-None.is)
-    (rw at_limits_of.ensures at at_clean_at.ensures)
+returns c =
+    rw (← c.shaped.ensures, c.if-not-shaped.false, ← (rw c.limits_of-limits.ensures at c.enough.ensures), c.if-not-enough.false, ← (rw c.in_ok-check_rows.was at c.check_rows.ensures))
+    (rw c.limits_of-limits.ensures at c.clean_at.ensures)

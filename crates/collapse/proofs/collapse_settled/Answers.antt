@@ -41,7 +41,7 @@ settle-requires c =
     )
 
 pub fill-requires : goal.fill-requires
-fill-requires c = let p = c.requires in (omega arith, omega (arith, p.1.1.1.1.0, p.1.1.1.1.1, c.try_edge-run.auto.list))
+fill-requires c = let p = c.requires in record { ordered = omega arith; lent = omega (arith, p.1.1.1.1.0, p.1.1.1.1.1, c.try_edge-run.auto.list) }
 
 pub returns : goal.returns
 unfolding collapse_settled

@@ -15,16 +15,16 @@ pub list_ring-requires : goal.list_ring-requires
 list_ring-requires c = let a = c.requires.0 in let p = c.requires.1 in (p.1.1.0.1, ((a.thirds, (p.0.0, a.few)), p.1.1.1.1))
 
 pub slice_bounds-about-end : goal.slice_bounds-about-end
-slice_bounds-about-end c = let w = rw c.in-Listed.is at c.list_ring.ensures in w.1.0.0
+slice_bounds-about-end c = let w = rw c.in-Some.is at c.list_ring.ensures in w.1.0.0
 
-pub slice_bounds-about-end-in-Listed : goal.slice_bounds-about-end-in-Listed
-slice_bounds-about-end-in-Listed c = let w = rw c.in-Listed.is at c.list_ring.ensures in sym (length-take-le _ _ w.1.0.0)
+pub slice_bounds-about-end-in-Some : goal.slice_bounds-about-end-in-Some
+slice_bounds-about-end-in-Some c = let w = rw c.in-Some.is at c.list_ring.ensures in sym (length-take-le _ _ w.1.0.0)
 
 pub about-requires : goal.about-requires
-about-requires c = let a = c.requires.0 in let p = c.requires.1 in let w = rw c.in-Listed.is at c.list_ring.ensures in (record { edge_in = a.edge_in; partner_in = a.partner_in; thirds = a.thirds; few = a.few; room = a.room; faces = a.faces; all_in = w.1.0.1 }, (p.0, (p.1.0, (p.1.1.0.0, p.1.1.1.0))))
+about-requires c = let a = c.requires.0 in let p = c.requires.1 in let w = rw c.in-Some.is at c.list_ring.ensures in (record { edge_in = a.edge_in; partner_in = a.partner_in; thirds = a.thirds; few = a.few; room = a.room; faces = a.faces; all_in = w.1.0.1 }, (p.0, (p.1.0, (p.1.1.0.0, p.1.1.1.0))))
 
-pub returns-in-Listed : goal.returns-in-Listed
-returns-in-Listed c = let w = rw c.in-Listed.is at c.list_ring.ensures in let e = rw (c.next-to.ensures, c.next.ensures) at w.0 in (rw (← e) c.about.ensures.0, (c.about.ensures.1, w.1.1))
+pub returns-in-Some : goal.returns-in-Some
+returns-in-Some c = let w = rw c.in-Some.is at c.list_ring.ensures in let e = rw (c.next-to.ensures, c.next.ensures) at w.0 in (rw (← e) c.about.ensures.0, (c.about.ensures.1, w.1.1))
 
-pub returns-in-Endless : goal.returns-in-Endless
-returns-in-Endless c = let w = rw c.in-Endless.is at c.list_ring.ensures in let e = rw (c.next-to.ensures, c.next.ensures) at w.0 in (rw (← e, c.stopped.ensures), (rw c.stopped.ensures c.requires.1.1.0, w.1.1))
+pub returns-in-None : goal.returns-in-None
+returns-in-None c = let w = rw c.in-None.is at c.list_ring.ensures in let e = rw (c.next-to.ensures, c.next.ensures) at w.0 in (rw (← e, c.stopped.ensures), (rw c.stopped.ensures c.requires.1.1.0, w.1.1))

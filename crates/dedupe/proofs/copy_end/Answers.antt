@@ -1,6 +1,5 @@
 -- `dedupe::copy_end` meets its contract: the search holds the edge, or not.
-use mathlib.Core.Path.{sym, ◌∙◌}
-use borrow.Author.Tests.{eq-eqb, ne_eqb}
+use mathlib.Core.Path.{sym}
 use Rattle.numbers.proofs.NextLaws.{next_in}
 use Rattle.dedupe.specs.Dedupe.{copy_end}
 use Rattle.growth.proofs.More.{more_same}
@@ -12,13 +11,12 @@ copy_round-requires c =
     let b = next_in c.args.moved.place.0 c.args.moved.grown.halfedges p.0.0 p.1.0.thirds in
     ((rw c.next.ensures b, p.0.1), p.1)
 
-pub returns-then-number : goal.returns-then-number
+pub returns-then-eq : goal.returns-then-eq
 unfolding copy_end
-returns-then-number c =
-    let t = sym c.number.ensures ∙ c.if-number.true ∙ c.number-2.ensures in
-    (λ n f. rw (eq-eqb c.args.moved.place.0 c.args.e.0 t, ← c.next.ensures) (c.copy_round.ensures.0 n f), c.copy_round.ensures.1.1)
+returns-then-eq c =
+    (λ n f. rw (sym c.if-eq.ensures, ← c.next.ensures) (c.copy_round.ensures.0 n f), c.copy_round.ensures.1.1)
 
 pub returns : goal.returns
 unfolding copy_end
 returns c =
-    (λ n f. rw (ne_eqb c.args.moved.place.0 c.args.e.0 (λ h. c.if-number.false (c.number.ensures ∙ h ∙ sym c.number-2.ensures))), (more_same _, c.requires.1))
+    (λ n f. rw (sym c.if-eq.ensures), (more_same _, c.requires.1))

@@ -14,10 +14,10 @@ settle_grown-requires c =
     fitting_settles _ _ _ p.1.1.halfedges_spared p.1.1.positions_spared (omega (arith, p.1.0.0, m.0.halfedges_grow)) (omega (arith, p.1.0.1, m.0.vertices_grow)) m.1
 
 pub fill-requires : goal.fill-requires
-fill-requires c = (omega arith, omega (arith, c.requires.1.1.work_long, c.rounds-ended.auto.work))
+fill-requires c = record { ordered = omega arith; lent = omega (arith, c.requires.1.1.work_long, c.rounds-ended.auto.work) }
 
 pub fill-requires-2 : goal.fill-requires-2
-fill-requires-2 c = (omega arith, omega (arith, c.requires.1.1.list_long, c.rounds-ended.auto.list))
+fill-requires-2 c = record { ordered = omega arith; lent = omega (arith, c.requires.1.1.list_long, c.rounds-ended.auto.list) }
 
 pub returns : goal.returns
 returns c =

@@ -1,16 +1,14 @@
--- `duplicates::is_duplicate` meets its contract: what is left of the fan answers for the whole.
+-- `duplicates::is_duplicate` meets its contract: what is left of the fan decides as the whole does.
 use mathlib.Core.Path.{◌≡◌}
-use mathlib.Core.List.{◌∷◌}
-use Prim.Native.Nat.{◌<◌}
 use Rattle.numbers.specs.Numbers.{halfedge_number}
-use Rattle.searches.specs.Duplicates.{turns, fan, is_duplicate}
+use Rattle.searches.specs.Duplicates.{fan, is_duplicate}
+use Rattle.duplicates.specs.Fans.{rest}
+use Rattle.duplicates.proofs.Scans.{Below}
 use Rattle.duplicates.proofs.is_duplicate.Given as goal
 
-abbrev pub invariant-loop-i : goal.invariant-loop-i
-invariant-loop-i l =
-    (halfedge_number l.d < l.halfedges)
-    × (is_duplicate l.vertices l.rows (halfedge_number l.d ∷ turns l.halfedges l.rows (halfedge_number l.i) l.left (halfedge_number l.d)) (halfedge_number l.c)
-    ≡ is_duplicate l.vertices l.rows (fan l.halfedges l.rows (halfedge_number l.i)) (halfedge_number l.c))
-
-abbrev pub decreases-loop-i : goal.decreases-loop-i
-decreases-loop-i l = l.left
+abbrev pub invariant-loop-d : goal.invariant-loop-d
+invariant-loop-d l =
+    (goal.iterator-loop-d).can_next l.d-iterator
+    × ((goal.iterator-loop-d).is_finite l.d-iterator
+    × (Below l.halfedges (rest l.d-iterator)
+    × (is_duplicate l.vertices l.rows (rest l.d-iterator) (halfedge_number l.c) ≡ is_duplicate l.vertices l.rows (fan l.halfedges l.rows (halfedge_number l.fn.i)) (halfedge_number l.c))))

@@ -1,37 +1,30 @@
 -- `duplicates::push_fan` meets its contract: what is left of the fan, listed behind what is done, is the whole.
-use mathlib.Core.Path.{refl, sym, ap, ◌∙◌}
-use native.Mathlib.Omega.{arith}
-use Rattle.numbers.specs.Numbers.{halfedge_named}
-use Rattle.searches.specs.Duplicates.{fan, is_duplicate}
-use Rattle.duplicates.proofs.Turns.{turns_some, turns_below, push_on, push_done}
+use mathlib.Core.Path.{◌∙◌}
+use Rattle.duplicates.specs.Scan.{push_all, picked}
+use Rattle.duplicates.proofs.Scans.{fan_in}
+use Rattle.duplicates.proofs.Turns.{push_on}
 use Rattle.duplicates.proofs.push_fan.Goals as goal
 
-pub loop-q-init : goal.loop-q-init
-loop-q-init c = (c.requires.0, (refl, refl))
-
-pub is_duplicate-there-requires : goal.is_duplicate-there-requires
-is_duplicate-there-requires c = (c.requires.0, (c.loop-q.invariant.0, c.requires.1.0))
-
-pub push_if-n-requires : goal.push_if-n-requires
-push_if-n-requires c = (omega (arith, c.loop-q.invariant.1.0, c.requires.1.1), omega (arith, c.loop-q.invariant.0, c.requires.1.0.1.1))
-
-pub turn_on-requires : goal.turn_on-requires
-turn_on-requires c = (c.loop-q.invariant.0, c.requires.1.0)
-
-pub shape_of-list-in_default : goal.shape_of-list-in_default
-shape_of-list-in_default c = c.push_if-n.auto.list ∙ c.loop-q.invariant.1.0
-
-pub returns-in_default : goal.returns-in_default
-returns-in_default c = let s = c.args in push_done s.halfedges s.rows.now s.i.0 (is_duplicate s.vertices s.rows.now (fan s.halfedges s.rows.now s.i.0)) s.capacity _ _ _ _ (rw c.is_duplicate-there.ensures at c.push_if-n.ensures) (sym c.turn_on.ensures ∙ ap halfedge_named c.in_default.is) ∙ c.loop-q.invariant.1.1
-
-pub overflow_sub-left : goal.overflow_sub-left
-overflow_sub-left c = let s = c.args in omega (arith, turns_some s.halfedges s.rows.now s.i.0 _ _ _ (sym c.turn_on.ensures ∙ ap halfedge_named c.in-Some.is))
-
-pub loop-q-smaller : goal.loop-q-smaller
-loop-q-smaller c = let s = c.args in omega (arith, turns_some s.halfedges s.rows.now s.i.0 _ _ _ (sym c.turn_on.ensures ∙ ap halfedge_named c.in-Some.is))
-
-pub loop-q-preserved : goal.loop-q-preserved
-loop-q-preserved c =
+pub loop-c-init : goal.loop-c-init
+loop-c-init g c =
     let s = c.args in
-    let e = sym c.turn_on.ensures ∙ ap halfedge_named c.in-Some.is in
-    (turns_below s.halfedges s.rows.now s.i.0 c.requires.1.0.0 _ _ _ e, (c.push_if-n.auto.list ∙ c.loop-q.invariant.1.0, push_on s.halfedges s.rows.now s.i.0 (is_duplicate s.vertices s.rows.now (fan s.halfedges s.rows.now s.i.0)) s.capacity _ _ _ _ (rw c.is_duplicate-there.ensures at c.push_if-n.ensures) _ e ∙ c.loop-q.invariant.1.1))
+    let e = c.of-c-items.ensures in
+    rw c.into_iter-c-iterator.ensures.into_iter_gives (e.1, (tt, (rw e.0 (fan_in s.halfedges s.rows.now c.requires.fan.1.0.0 s.i.0 c.requires.fan.0), λ test same. rw e.0)))
+
+pub loop-c-preserved : goal.loop-c-preserved
+loop-c-preserved g c =
+    let b = rw c.in-Some.ensures.steps at c.loop-c.invariant.1.1.0 in (
+      c.in-Some.ensures.goes.keeps,
+      (
+        tt,
+        (
+          b.1,
+          λ test same.
+              push_on test c.args.capacity _ _ _ _ (rw (← same _ _ c.listed.ensures) c.push_if-n.ensures) ∙ rw c.in-Some.ensures.steps at (c.loop-c.invariant.1.1.1 test same),
+        ),
+      ),
+    )
+
+pub returns : goal.returns
+unfolding push_all picked
+returns g c = λ test same. rw c.in-None.ensures.steps.0 at (c.loop-c.invariant.1.1.1 test same)

@@ -16,23 +16,23 @@ returns-then-not-shaped c =
 pub returns-in_default : goal.returns-in_default
 unfolding loop_step
 returns-in_default c =
-    rw (c.refused-in_default.ensures, ← (rw c.counts_of.ensures at c.shaped.ensures), c.if-not-shaped.false, ← (rw (to_z-of_z c.ranges.first, c.in_default.is) at c.halfedge_given.ensures))
+    rw (c.refused-in_default.ensures, ← (rw c.counts_of.ensures at c.shaped.ensures), c.if-not-shaped.false, ← (rw (to_z-of_z c.ranges.first, c.in_default.is) at c.halfedge_read.ensures))
 
-pub returns-in_default-halfedge_given : goal.returns-in_default-halfedge_given
+pub returns-in_default-halfedge_read : goal.returns-in_default-halfedge_read
 unfolding loop_step
-returns-in_default-halfedge_given c =
-    rw (c.refused-in_default-halfedge_given.ensures, ← (rw c.counts_of.ensures at c.shaped.ensures), c.if-not-shaped.false, ← (rw (to_z-of_z c.ranges.first, c.in-Some.is) at c.halfedge_given.ensures), ← (rw (to_z-of_z c.ranges.second, c.in_default-halfedge_given.is) at c.halfedge_given-2.ensures))
+returns-in_default-halfedge_read c =
+    rw (c.refused-in_default-halfedge_read.ensures, ← (rw c.counts_of.ensures at c.shaped.ensures), c.if-not-shaped.false, ← (rw (to_z-of_z c.ranges.first, c.in-Some.is) at c.halfedge_read.ensures), ← (rw (to_z-of_z c.ranges.second, c.in_default-halfedge_read.is) at c.halfedge_read-2.ensures))
 
 pub loop_step-requires : goal.loop_step-requires
 unfolding vertex_capacity_over
 loop_step-requires c =
     let sh = shaped_yes _ _ (sym (rw c.counts_of.ensures at c.shaped.ensures) ∙ c.if-not-shaped.false) in
     let w = within _ _ sh in
-    let a = names_below c.args.first c.args.used.halfedges (sym (rw (to_z-of_z c.ranges.first, c.in-Some.is) at c.halfedge_given.ensures)) in
-    let b = names_below c.args.second c.args.used.halfedges (sym (rw (to_z-of_z c.ranges.second, c.in-Some-halfedge_given.is) at c.halfedge_given-2.ensures)) in
+    let a = names_below c.args.first c.args.used.halfedges (sym (rw (to_z-of_z c.ranges.first, c.in-Some.is) at c.halfedge_read.ensures)) in
+    let b = names_below c.args.second c.args.used.halfedges (sym (rw (to_z-of_z c.ranges.second, c.in-Some-halfedge_read.is) at c.halfedge_read-2.ensures)) in
     rw (c.vertex_capacity-capacity.ensures, c.begun.ensures) ((a, b), ((w.halfedges_thirds, (w.halfedges_lent, w.halfedges_most)), (sh.vertices_fit, (omega arith, omega arith))))
 
 pub returns : goal.returns
 unfolding loop_step
 returns c =
-    rw (c.told.ensures, ← (rw c.counts_of.ensures at c.shaped.ensures), c.if-not-shaped.false, ← (rw (to_z-of_z c.ranges.first, c.in-Some.is) at c.halfedge_given.ensures), ← (rw (to_z-of_z c.ranges.second, c.in-Some-halfedge_given.is) at c.halfedge_given-2.ensures), ← c.vertex_capacity-capacity.ensures, ← c.begun.ensures) (ap both_left c.loop_step.ensures.0)
+    rw (c.told.ensures, ← (rw c.counts_of.ensures at c.shaped.ensures), c.if-not-shaped.false, ← (rw (to_z-of_z c.ranges.first, c.in-Some.is) at c.halfedge_read.ensures), ← (rw (to_z-of_z c.ranges.second, c.in-Some-halfedge_read.is) at c.halfedge_read-2.ensures), ← c.vertex_capacity-capacity.ensures, ← c.begun.ensures) (ap both_left c.loop_step.ensures.0)

@@ -28,7 +28,7 @@ returns-in_default c =
     let s = rw c.counts_of.ensures at c.shaped.ensures in
     let fits = c.if-not-shaped.false in
     let t = rw c.long_enough.ensures at c.if-not-long_enough.false in
-    let named = rw (to_z-of_z c.ranges.halfedge, c.in_default.is) at c.halfedge_given.ensures in
+    let named = rw (to_z-of_z c.ranges.halfedge, c.in_default.is) at c.halfedge_read.ensures in
     (rw (c.refused-in_default.ensures, ← s, fits, t, ← named), search rules)
 
 pub try_at-requires : goal.try_at-requires
@@ -37,7 +37,7 @@ try_at-requires c =
     let s = shaped_yes _ _ (sym (rw c.counts_of.ensures at c.shaped.ensures) ∙ c.if-not-shaped.false) in
     let w = within _ _ s in
     let l = leb-true _ _ (sym c.long_enough.ensures ∙ c.if-not-long_enough.false) in
-    let b = names_below a.halfedge a.used.halfedges (sym (rw (to_z-of_z c.ranges.halfedge, c.in-Some.is) at c.halfedge_given.ensures)) in
+    let b = names_below a.halfedge a.used.halfedges (sym (rw (to_z-of_z c.ranges.halfedge, c.in-Some.is) at c.halfedge_read.ensures)) in
     ((b, (w.halfedges_thirds, (w.halfedges_lent, w.halfedges_most))), (s.vertices_fit, ((λ u. let v = ltb-true 0 a.used.references (and2 (ltb 0 a.used.num_prop) (ltb 0 a.used.references) u).1 in let k = w.references_lent (λ z. omega (arith, z, v)) in omega (arith, k, w.halfedges_thirds)), l)))
 
 pub returns : goal.returns
@@ -46,5 +46,5 @@ returns c =
     let s = rw c.counts_of.ensures at c.shaped.ensures in
     let fits = c.if-not-shaped.false in
     let t = rw c.long_enough.ensures at c.if-not-long_enough.false in
-    let named = rw (to_z-of_z c.ranges.halfedge, c.in-Some.is) at c.halfedge_given.ensures in
+    let named = rw (to_z-of_z c.ranges.halfedge, c.in-Some.is) at c.halfedge_read.ensures in
     (rw (← s, fits, t, ← named) (rw (to_z-of_z c.ranges.first_new_vert) at c.try_at.ensures.0), c.try_at.ensures.1)

@@ -15,26 +15,26 @@ returns-then-not-shaped c =
 pub returns-in_default : goal.returns-in_default
 unfolding update_step
 returns-in_default c =
-    rw (c.refused-in_default.ensures, ← (rw c.counts_of.ensures at c.shaped.ensures), c.if-not-shaped.false, ← (rw (to_z-of_z c.ranges.vertex, c.in_default.is) at c.vertex_given.ensures))
+    rw (c.refused-in_default.ensures, ← (rw c.counts_of.ensures at c.shaped.ensures), c.if-not-shaped.false, ← (rw (to_z-of_z c.ranges.vertex, c.in_default.is) at c.vertex_read.ensures))
 
-pub returns-in_default-halfedge_given : goal.returns-in_default-halfedge_given
+pub returns-in_default-halfedge_read : goal.returns-in_default-halfedge_read
 unfolding update_step
-returns-in_default-halfedge_given c =
-    rw (c.refused-in_default-halfedge_given.ensures, ← (rw c.counts_of.ensures at c.shaped.ensures), c.if-not-shaped.false, ← (rw (to_z-of_z c.ranges.vertex, c.in-Some.is) at c.vertex_given.ensures), ← (rw (to_z-of_z c.ranges.start, c.in_default-halfedge_given.is) at c.halfedge_given.ensures))
+returns-in_default-halfedge_read c =
+    rw (c.refused-in_default-halfedge_read.ensures, ← (rw c.counts_of.ensures at c.shaped.ensures), c.if-not-shaped.false, ← (rw (to_z-of_z c.ranges.vertex, c.in-Some.is) at c.vertex_read.ensures), ← (rw (to_z-of_z c.ranges.start, c.in_default-halfedge_read.is) at c.halfedge_read.ensures))
 
-pub returns-in_default-halfedge_given-2 : goal.returns-in_default-halfedge_given-2
+pub returns-in_default-halfedge_read-2 : goal.returns-in_default-halfedge_read-2
 unfolding update_step
-returns-in_default-halfedge_given-2 c =
-    rw (c.refused-in_default-halfedge_given-2.ensures, ← (rw c.counts_of.ensures at c.shaped.ensures), c.if-not-shaped.false, ← (rw (to_z-of_z c.ranges.vertex, c.in-Some.is) at c.vertex_given.ensures), ← (rw (to_z-of_z c.ranges.start, c.in-Some-halfedge_given.is) at c.halfedge_given.ensures), ← (rw (to_z-of_z c.ranges.end, c.in_default-halfedge_given-2.is) at c.halfedge_given-2.ensures))
+returns-in_default-halfedge_read-2 c =
+    rw (c.refused-in_default-halfedge_read-2.ensures, ← (rw c.counts_of.ensures at c.shaped.ensures), c.if-not-shaped.false, ← (rw (to_z-of_z c.ranges.vertex, c.in-Some.is) at c.vertex_read.ensures), ← (rw (to_z-of_z c.ranges.start, c.in-Some-halfedge_read.is) at c.halfedge_read.ensures), ← (rw (to_z-of_z c.ranges.end, c.in_default-halfedge_read-2.is) at c.halfedge_read-2.ensures))
 
 pub update_step-requires : goal.update_step-requires
 update_step-requires c =
     let sh = shaped_yes _ _ (sym (rw c.counts_of.ensures at c.shaped.ensures) ∙ c.if-not-shaped.false) in
     let w = within _ _ sh in
-    let v = names_below c.args.vertex c.args.used.vertices (sym (rw (to_z-of_z c.ranges.vertex, c.in-Some.is) at c.vertex_given.ensures)) in
-    (names_below c.args.start c.args.used.halfedges (sym (rw (to_z-of_z c.ranges.start, c.in-Some-halfedge_given.is) at c.halfedge_given.ensures)), (omega (arith, v, w.vertices_most), (w.halfedges_thirds, (w.halfedges_lent, w.halfedges_most))))
+    let v = names_below c.args.vertex c.args.used.vertices (sym (rw (to_z-of_z c.ranges.vertex, c.in-Some.is) at c.vertex_read.ensures)) in
+    (names_below c.args.start c.args.used.halfedges (sym (rw (to_z-of_z c.ranges.start, c.in-Some-halfedge_read.is) at c.halfedge_read.ensures)), (omega (arith, v, w.vertices_most), (w.halfedges_thirds, (w.halfedges_lent, w.halfedges_most))))
 
 pub returns : goal.returns
 unfolding update_step
 returns c =
-    rw (c.told.ensures, ← (rw c.counts_of.ensures at c.shaped.ensures), c.if-not-shaped.false, ← (rw (to_z-of_z c.ranges.vertex, c.in-Some.is) at c.vertex_given.ensures), ← (rw (to_z-of_z c.ranges.start, c.in-Some-halfedge_given.is) at c.halfedge_given.ensures), ← (rw (to_z-of_z c.ranges.end, c.in-Some-halfedge_given-2.is) at c.halfedge_given-2.ensures), ← c.begun.ensures) (ap rows_left (c.update_step.ensures.0 c.args.positions.now))
+    rw (c.told.ensures, ← (rw c.counts_of.ensures at c.shaped.ensures), c.if-not-shaped.false, ← (rw (to_z-of_z c.ranges.vertex, c.in-Some.is) at c.vertex_read.ensures), ← (rw (to_z-of_z c.ranges.start, c.in-Some-halfedge_read.is) at c.halfedge_read.ensures), ← (rw (to_z-of_z c.ranges.end, c.in-Some-halfedge_read-2.is) at c.halfedge_read-2.ensures), ← c.begun.ensures) (ap rows_left (c.update_step.ensures.0 c.args.positions.now))

@@ -1,46 +1,24 @@
--- `rings::find` meets its contract: what is left of the search is the whole search.
-use mathlib.Core.Path.{◌≡◌, sym, ◌∙◌}
-use Prim.Native.Nat.{◌-◌, ◌+◌, ◌<◌}
-use lib.ListN.{length}
-use native.Mathlib.Omega.{arith}
+-- `rings::find` meets its contract: the place that `position` finds is the search's, and each entry is in use.
+use Rattle.std.proofs.Common.{rules, tests, arith, ◌<◌, ◌∙◌, ap, take, ℕ, Bool}
+use Rattle.std.proofs.lemmas.Iterator.{YieldsList-from_slice}
+use Rattle.std.proofs.lemmas.Iterator.Adapters.{serves_from_places, position_from-zero}
+use Rattle.std.proofs.lemmas.Iterator.Search.{position_from_yields_List}
+use Rattle.laws.specs.Integers.{eq_z}
 use Rattle.rows.specs.Halfedges.{end_of}
-use Rattle.rings.proofs.Listed.{find_hit, find_on, find_none}
+use Rattle.rings.specs.Ring.{hit}
+use Rattle.rings.proofs.Listed.{found, below_taken}
 use Rattle.rings.proofs.find.Goals as goal
 
-pub loop-k-init : goal.loop-k-init
-loop-k-init c = let z : c.args.len - 0 ≡ c.args.len = omega arith in (omega arith, rw z)
-
-pub entry-g-requires : goal.entry-g-requires
-entry-g-requires c =
+pub position-requires-clause-callable : goal.position-requires-clause-callable
+position-requires-clause-callable c =
     let p = c.requires in
-    let l : c.loop-k.k < length c.args.list.now = omega (arith, p.1.1.0, c.loop-k-test.true) in
-    let b = p.1.1.1 c.loop-k.k l in
-    (l, omega (arith, b, p.1.0.1.1))
-
-pub same_end-requires : goal.same_end-requires
-same_end-requires c =
-    let p = c.requires in
-    let b = p.1.1.1 c.loop-k.k (omega (arith, p.1.1.0, c.loop-k-test.true)) in
-    (omega (arith, p.0, p.1.0.1.0), rw c.entry-g.ensures (omega (arith, b, p.1.0.1.0)))
-
-pub returns-then-same_end : goal.returns-then-same_end
-returns-then-same_end c =
-    let s = c.args in
-    find_hit s.rows.now (end_of s.rows.now s.h.0) s.list.now (s.len - c.loop-k.k) c.loop-k.k (omega (arith, c.loop-k-test.true)) (sym (rw c.entry-g.ensures at c.same_end.ensures) ∙ c.if-same_end.true) ∙ c.loop-k.invariant.1
-
-pub overflow_add-k : goal.overflow_add-k
-overflow_add-k c = omega (arith, c.loop-k-test.true)
-
-pub loop-k-smaller : goal.loop-k-smaller
-loop-k-smaller c = omega (arith, c.loop-k-test.true)
-
-pub loop-k-preserved : goal.loop-k-preserved
-loop-k-preserved c =
-    let s = c.args in
-    let z : s.len - (c.loop-k.k + 1) ≡ s.len - c.loop-k.k - 1 = omega arith in
-    (omega (arith, c.loop-k-test.true), rw z (find_on s.rows.now (end_of s.rows.now s.h.0) s.list.now (s.len - c.loop-k.k) c.loop-k.k (omega (arith, c.loop-k-test.true)) (sym (rw c.entry-g.ensures at c.same_end.ensures) ∙ c.if-same_end.false) ∙ c.loop-k.invariant.1))
+    serves_from_places (YieldsList-from_slice (take c.args.len c.args.list.now) c.iter.ensures.rest) (λ x q k. search (rules, tests))
+    (λ x k i e. let b : x.now < c.args.halfedges = rw e (below_taken _ _ _ p.1.1.0 p.1.1.1 k _ i) in search (rules, tests))
 
 pub returns : goal.returns
 returns c =
     let s = c.args in
-    find_none s.rows.now (end_of s.rows.now s.h.0) s.list.now (s.len - c.loop-k.k) c.loop-k.k (omega (arith, c.loop-k-test.false)) ∙ c.loop-k.invariant.1
+    let z = end_of s.rows.now s.h.0 in
+    let test : ℕ → Bool = λ g. eq_z z (end_of s.rows.now g) in
+    let first = position_from_yields_List test _ _ c.position.result c.position.ensures.ran (YieldsList-from_slice _ c.iter.ensures.rest) (λ x b q k. search (rules, tests)) in
+    ap hit (first ∙ position_from-zero test (take s.len s.list.now)) ∙ found s.rows.now z s.list.now s.len 0 (omega (arith, c.requires.1.1.0))

@@ -2,6 +2,7 @@
 use mathlib.Core.Path.{sym, ap, ◌∙◌}
 use Prim.Native.Nat.{ℕ}
 use native.Mathlib.Omega.{arith}
+use borrow.Author.Tests.{eqb-true, eqb-false}
 use Rattle.numbers.specs.Numbers.{halfedge_named}
 use Rattle.numbers.proofs.Names.{names_below}
 use Rattle.numbers.proofs.NextLaws.{next_in}
@@ -42,13 +43,10 @@ fan-preserved c =
     let at_pair_of = c.pair_of in
     let at_p = c.in-Some in
     let at_next = c.next-at in
-    let at_number = c.number in
-    let at_number2 = c.number-in-fan in
-    let at_if2 = c.if-number in
     let at_same_end = c.same_end in
     let s = at_args in
     let a = sym at_pair_of.ensures ∙ ap halfedge_named at_p.is in
-    (rw at_next.ensures (next_in _ _ (names_below (pair_of at_args.rows.now at_fan.at.0) at_args.halfedges (sym at_pair_of.ensures ∙ ap halfedge_named at_p.is)) at_pre.1.0), rw at_next.ensures (again_on s.halfedges s.e.0 s.rows.now _ _ at_if1.false _ a (λ h. at_if2.false (at_number.ensures ∙ at_next.ensures ∙ h ∙ sym at_number2.ensures)) (rw at_next.ensures at (sym at_same_end.ensures ∙ c.if-same_end.false)) ∙ at_fan.invariant.1))
+    (rw at_next.ensures (next_in _ _ (names_below (pair_of at_args.rows.now at_fan.at.0) at_args.halfedges (sym at_pair_of.ensures ∙ ap halfedge_named at_p.is)) at_pre.1.0), rw at_next.ensures (again_on s.halfedges s.e.0 s.rows.now _ _ at_if1.false _ a (rw at_next.ensures at (eqb-false _ _ (sym c.if-eq.ensures))) (rw at_next.ensures at (sym at_same_end.ensures ∙ c.if-same_end.false)) ∙ at_fan.invariant.1))
 
 pub returns-then-left-eq0 : goal.returns-then-left-eq0
 returns-then-left-eq0 c = let s = c.args in again_tired s.halfedges s.e.0 s.rows.now _ _ c.if-left-eq0.true ∙ c.fan.invariant.1
@@ -56,14 +54,14 @@ returns-then-left-eq0 c = let s = c.args in again_tired s.halfedges s.e.0 s.rows
 pub returns-in_default : goal.returns-in_default
 returns-in_default c = let s = c.args in again_off s.halfedges s.e.0 s.rows.now _ _ c.if-left-eq0.false (sym c.pair_of.ensures ∙ ap halfedge_named c.in_default.is) ∙ c.fan.invariant.1
 
-pub returns-then-number : goal.returns-then-number
-returns-then-number c =
+pub returns-then-eq : goal.returns-then-eq
+returns-then-eq c =
     let s = c.args in
     let a = sym c.pair_of.ensures ∙ ap halfedge_named c.in-Some.is in
-    again_home s.halfedges s.e.0 s.rows.now _ _ c.if-left-eq0.false _ a (sym c.next-at.ensures ∙ sym c.number.ensures ∙ c.if-number.true ∙ c.number-in-fan.ensures) ∙ c.fan.invariant.1
+    again_home s.halfedges s.e.0 s.rows.now _ _ c.if-left-eq0.false _ a (sym c.next-at.ensures ∙ eqb-true _ _ (sym c.if-eq.ensures)) ∙ c.fan.invariant.1
 
 pub returns-then-same_end : goal.returns-then-same_end
 returns-then-same_end c =
     let s = c.args in
     let a = sym c.pair_of.ensures ∙ ap halfedge_named c.in-Some.is in
-    again_met s.halfedges s.e.0 s.rows.now _ _ c.if-left-eq0.false _ a (λ h. c.if-number.false (c.number.ensures ∙ c.next-at.ensures ∙ h ∙ sym c.number-in-fan.ensures)) (rw c.next-at.ensures at (sym c.same_end.ensures ∙ c.if-same_end.true)) ∙ c.fan.invariant.1
+    again_met s.halfedges s.e.0 s.rows.now _ _ c.if-left-eq0.false _ a (rw c.next-at.ensures at (eqb-false _ _ (sym c.if-eq.ensures))) (rw c.next-at.ensures at (sym c.same_end.ensures ∙ c.if-same_end.true)) ∙ c.fan.invariant.1

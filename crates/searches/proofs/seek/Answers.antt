@@ -1,6 +1,7 @@
 -- `searches::seek` meets its contract: what is left of the search is the whole search. Each way out of the loop is one law of a turn.
 use mathlib.Core.Path.{refl, sym, ap, ◌∙◌}
 use native.Mathlib.Omega.{arith}
+use borrow.Author.Tests.{eqb-true, eqb-false}
 use Rattle.numbers.specs.Numbers.{halfedge_named}
 use Rattle.numbers.proofs.NextLaws.{next_in}
 use Rattle.walks.specs.Walk.{onward}
@@ -34,20 +35,20 @@ unfolding onward
 fan-preserved c =
     let s = c.args in
     let e = rw c.next.ensures at (sym c.pair_of.ensures ∙ ap halfedge_named c.in-Some.is) in
-    (onward_below s.halfedges s.rows.now _ e, seek_on s.halfedges s.v.0 s.home.0 s.rows.now _ _ _ c.if-left-eq0.false (λ h. c.if-number.false (c.number.ensures ∙ h ∙ sym c.number-in-fan.ensures)) (sym c.starts_at.ensures ∙ c.if-starts_at.false) e ∙ c.fan.invariant.1)
+    (onward_below s.halfedges s.rows.now _ e, seek_on s.halfedges s.v.0 s.home.0 s.rows.now _ _ _ c.if-left-eq0.false (eqb-false _ _ (sym c.if-eq.ensures)) (sym c.starts_at.ensures ∙ c.if-starts_at.false) e ∙ c.fan.invariant.1)
 
-pub returns-then-number : goal.returns-then-number
-returns-then-number c = let s = c.args in seek_home s.halfedges s.v.0 s.home.0 s.rows.now _ _ (sym c.number.ensures ∙ c.if-number.true ∙ c.number-in-fan.ensures) ∙ c.fan.invariant.1
+pub returns-then-eq : goal.returns-then-eq
+returns-then-eq c = let s = c.args in seek_home s.halfedges s.v.0 s.home.0 s.rows.now _ _ (eqb-true _ _ (sym c.if-eq.ensures)) ∙ c.fan.invariant.1
 
 pub returns-then-starts_at : goal.returns-then-starts_at
-returns-then-starts_at c = let s = c.args in seek_met s.halfedges s.v.0 s.home.0 s.rows.now _ _ (λ h. c.if-number.false (c.number.ensures ∙ h ∙ sym c.number-in-fan.ensures)) (sym c.starts_at.ensures ∙ c.if-starts_at.true) ∙ c.fan.invariant.1
+returns-then-starts_at c = let s = c.args in seek_met s.halfedges s.v.0 s.home.0 s.rows.now _ _ (eqb-false _ _ (sym c.if-eq.ensures)) (sym c.starts_at.ensures ∙ c.if-starts_at.true) ∙ c.fan.invariant.1
 
 pub returns-then-left-eq0 : goal.returns-then-left-eq0
-returns-then-left-eq0 c = let s = c.args in seek_tired s.halfedges s.v.0 s.home.0 s.rows.now _ _ c.if-left-eq0.true (λ h. c.if-number.false (c.number.ensures ∙ h ∙ sym c.number-in-fan.ensures)) (sym c.starts_at.ensures ∙ c.if-starts_at.false) ∙ c.fan.invariant.1
+returns-then-left-eq0 c = let s = c.args in seek_tired s.halfedges s.v.0 s.home.0 s.rows.now _ _ c.if-left-eq0.true (eqb-false _ _ (sym c.if-eq.ensures)) (sym c.starts_at.ensures ∙ c.if-starts_at.false) ∙ c.fan.invariant.1
 
 pub returns-in-None : goal.returns-in-None
 unfolding onward
 returns-in-None c =
     let s = c.args in
     let e = rw c.next.ensures at (sym c.pair_of.ensures ∙ ap halfedge_named c.in-None.is) in
-    seek_off s.halfedges s.v.0 s.home.0 s.rows.now _ _ c.if-left-eq0.false (λ h. c.if-number.false (c.number.ensures ∙ h ∙ sym c.number-in-fan.ensures)) (sym c.starts_at.ensures ∙ c.if-starts_at.false) e ∙ c.fan.invariant.1
+    seek_off s.halfedges s.v.0 s.home.0 s.rows.now _ _ c.if-left-eq0.false (eqb-false _ _ (sym c.if-eq.ensures)) (sym c.starts_at.ensures ∙ c.if-starts_at.false) e ∙ c.fan.invariant.1

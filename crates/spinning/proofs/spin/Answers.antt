@@ -8,26 +8,26 @@ use Rattle.spinning.proofs.Turns.{spin_out, spin_on, spin_formed, spin_last, few
 use Rattle.spinning.proofs.spin.Goals as goal
 
 pub loop-left-init : goal.loop-left-init
-loop-left-init c = let p = c.requires.1.1 in (p.1, p.0, p.1, omega arith, omega arith, refl, refl, refl)
+loop-left-init c = let p = c.requires.1.1 in (p.1, p.0, p.1, omega arith, refl, refl, (_, omega arith, refl))
 
 pub turn_once-requires : goal.turn_once-requires
 turn_once-requires c =
     let p = c.requires in
     let i = c.loop-left.invariant in
-    (p.0, ((omega (arith, p.1.0.0, i.5), omega (arith, p.1.0.1, i.6)), (i.1, (i.0, omega (arith, i.3, i.4)))))
+    (p.0, ((omega (arith, p.1.0.0, i.4), omega (arith, p.1.0.1, i.5)), (i.1, (i.0, i.3))))
 
 pub shape_of-rows-in-Out : goal.shape_of-rows-in-Out
-shape_of-rows-in-Out c = c.turn_once.auto.rows ∙ c.loop-left.invariant.5
+shape_of-rows-in-Out c = c.turn_once.auto.rows ∙ c.loop-left.invariant.4
 
 pub shape_of-positions-in-Out : goal.shape_of-positions-in-Out
-shape_of-positions-in-Out c = c.turn_once.auto.positions ∙ c.loop-left.invariant.6
+shape_of-positions-in-Out c = c.turn_once.auto.positions ∙ c.loop-left.invariant.5
 
 pub returns-in-Out : goal.returns-in-Out
 returns-in-Out c =
     let a = c.args in
     let l = c.loop-left in
     let e = rw c.in-Out.is at c.turn_once.ensures in
-    (spin_out (fixed a.ends a.references.now a.list.now) l.loops l.left l.start.0 l.len l.at.0 (middle l.rows l.positions l.run) c.loop-left-test.true e.0 ∙ l.invariant.7, (e.1, l.invariant.2))
+    (spin_out (fixed a.ends a.references.now a.list.now) l.invariant.6.0 l.left l.start.0 l.len l.at.0 (middle l.rows l.positions l.run) c.loop-left-test.true e.0 ∙ l.invariant.6.2, (e.1, l.invariant.2))
 
 pub loop-left-smaller-in-On : goal.loop-left-smaller-in-On
 loop-left-smaller-in-On c = omega arith
@@ -41,21 +41,15 @@ loop-left-preserved-in-On c =
       e.1.0,
       l.invariant.2,
       l.invariant.3,
-      l.invariant.4,
-      c.turn_once.auto.rows ∙ l.invariant.5,
-      c.turn_once.auto.positions ∙ l.invariant.6,
-      spin_on (fixed a.ends a.references.now a.list.now) l.loops l.left l.start.0 l.len l.at.0 (middle l.rows l.positions l.run) c.loop-left-test.true e.0 ∙ l.invariant.7,
+      c.turn_once.auto.rows ∙ l.invariant.4,
+      c.turn_once.auto.positions ∙ l.invariant.5,
+      (_, l.invariant.6.1, spin_on (fixed a.ends a.references.now a.list.now) l.invariant.6.0 l.left l.start.0 l.len l.at.0 (middle l.rows l.positions l.run) c.loop-left-test.true e.0 ∙ l.invariant.6.2),
     )
-
-pub overflow_sub-loops : goal.overflow_sub-loops
-overflow_sub-loops c =
-    let e = rw c.in-Formed.is at c.turn_once.ensures in
-    omega (arith, e.1.1.1, c.loop-left.invariant.3)
 
 pub loop-left-smaller : goal.loop-left-smaller
 loop-left-smaller c =
     let e = rw c.in-Formed.is at c.turn_once.ensures in
-    fewer c.loop-left.loops c.args.ends.halfedges c.loop-left.left (omega (arith, e.1.1.1, c.loop-left.invariant.3))
+    fewer _ c.loop-left.len c.args.ends.halfedges c.loop-left.left e.1.1.1
 
 pub loop-left-preserved : goal.loop-left-preserved
 loop-left-preserved c =
@@ -66,10 +60,9 @@ loop-left-preserved c =
       e.1.0,
       e.1.1.0,
       omega (arith, e.1.1.1, l.invariant.3),
-      omega (arith, l.invariant.4),
-      c.turn_once.auto.rows ∙ l.invariant.5,
-      c.turn_once.auto.positions ∙ l.invariant.6,
-      spin_formed (fixed a.ends a.references.now a.list.now) l.loops l.left l.start.0 l.len l.at.0 (middle l.rows l.positions l.run) c.loop-left-test.true (omega (arith, e.1.1.1, l.invariant.3)) e.0 ∙ l.invariant.7,
+      c.turn_once.auto.rows ∙ l.invariant.4,
+      c.turn_once.auto.positions ∙ l.invariant.5,
+      (_, omega (arith, e.1.1.1, l.invariant.6.1), spin_formed (fixed a.ends a.references.now a.list.now) l.invariant.6.0 l.left l.start.0 l.len l.at.0 (middle l.rows l.positions l.run) c.loop-left-test.true (omega (arith, e.1.1.1, l.invariant.6.1)) e.0 ∙ l.invariant.6.2),
     )
 
 pub next-requires : goal.next-requires
@@ -79,14 +72,14 @@ pub next-requires-2 : goal.next-requires-2
 next-requires-2 c = let a = c.requires.0 in let n = next_in _ _ a.edge_in a.thirds in omega (arith, n, c.next.ensures, a.few)
 
 pub shape_of-rows : goal.shape_of-rows
-shape_of-rows c = c.loop-left.invariant.5
+shape_of-rows c = c.loop-left.invariant.4
 
 pub shape_of-positions : goal.shape_of-positions
-shape_of-positions c = c.loop-left.invariant.6
+shape_of-positions c = c.loop-left.invariant.5
 
 pub returns : goal.returns
 returns c =
     let a = c.args in
     let l = c.loop-left in
     let t = rw (c.next-2.ensures, c.next.ensures) at (c.tired.ensures.0 l.rows l.positions) in
-    (ap (λ (m : Middle). spun m l.start.0) t ∙ spin_last (fixed a.ends a.references.now a.list.now) l.loops l.left l.start.0 l.len l.at.0 (middle l.rows l.positions l.run) c.loop-left-test.false ∙ l.invariant.7, (rw c.tired.ensures.1 l.invariant.1, l.invariant.2))
+    (ap (λ (m : Middle). spun m l.start.0) t ∙ spin_last (fixed a.ends a.references.now a.list.now) l.invariant.6.0 l.left l.start.0 l.len l.at.0 (middle l.rows l.positions l.run) c.loop-left-test.false ∙ l.invariant.6.2, (rw c.tired.ensures.1 l.invariant.1, l.invariant.2))

@@ -1,6 +1,6 @@
 -- `spinning::spin` meets its contract: what is left of the loop is the whole loop. Each way out of a turn is one law.
 use mathlib.Core.Path.{◌≡◌}
-use Prim.Native.Nat.{◌≤◌, ◌<◌, ◌+◌, ◌*◌}
+use Prim.Native.Nat.{ℕ, ◌≤◌, ◌<◌, ◌+◌, ◌*◌}
 use lib.ListN.{length}
 use Rattle.numbers.specs.Numbers.{halfedge_number}
 use Rattle.steps.specs.Steps.{middle}
@@ -12,13 +12,14 @@ invariant-loop-left l =
     (halfedge_number l.at < l.ends.halfedges)
     × (l.run.vertices ≤ l.ends.capacity)
     × (halfedge_number l.start < l.ends.halfedges)
-    × (l.len ≤ l.loops)
-    × (l.loops ≤ length l.list)
+    × (l.len ≤ length l.list)
     × (length l.rows ≡ length l.initial.rows)
     × (length l.positions ≡ length l.initial.positions)
-    × (spin l.loops (fixed l.ends l.references l.list) l.left (halfedge_number l.start) l.len (halfedge_number l.at) (middle l.rows l.positions l.run)
-    ≡ spin (length l.list) (fixed l.ends l.references l.list) l.ends.halfedges (halfedge_number l.initial.at) (length l.list) (halfedge_number l.initial.at) (middle l.initial.rows l.initial.positions l.initial.run))
+    × ((loops : ℕ)
+    × (l.len ≤ loops)
+    × (spin loops (fixed l.ends l.references l.list) l.left (halfedge_number l.start) l.len (halfedge_number l.at) (middle l.rows l.positions l.run)
+    ≡ spin (length l.list) (fixed l.ends l.references l.list) l.ends.halfedges (halfedge_number l.initial.at) (length l.list) (halfedge_number l.initial.at) (middle l.initial.rows l.initial.positions l.initial.run)))
 
 abbrev pub decreases-loop-left : goal.decreases-loop-left
 decreases-loop-left l =
-    l.loops * (l.ends.halfedges + 1) + l.left
+    l.len * (l.ends.halfedges + 1) + l.left

@@ -1,7 +1,6 @@
 -- `spinning::turn_once` meets its contract: each return is by the tests met so far.
-use mathlib.Core.Path.{sym, ap, ◌∙◌}
+use mathlib.Core.Path.{ap, ◌∙◌}
 use native.Mathlib.Omega.{arith}
-use borrow.Author.Tests.{eq-eqb, ne_eqb}
 use Rattle.numbers.specs.Next.{next}
 use Rattle.numbers.proofs.NextLaws.{next_in}
 use Rattle.spinning.specs.Spin.{turn_once}
@@ -17,11 +16,11 @@ next-requires c = let a = c.requires.0 in omega (arith, a.edge_in, a.few)
 pub next-requires-2 : goal.next-requires-2
 next-requires-2 c = let a = c.requires.0 in let n = next_in _ _ a.edge_in a.thirds in omega (arith, n, c.next.ensures, a.few)
 
-pub returns-then-number : goal.returns-then-number
+pub returns-then-eq : goal.returns-then-eq
 unfolding turn_once
-returns-then-number c =
-    let third = c.number-2.ensures ∙ c.next-2.ensures ∙ ap next c.next.ensures in
-    (rw (← c.refused.ensures, c.if-refused.false, eq-eqb _ _ (sym c.number.ensures ∙ c.if-number.true ∙ third)), c.requires.1.1.0)
+returns-then-eq c =
+    let third = c.next-2.ensures ∙ ap next c.next.ensures in
+    (rw (← c.refused.ensures, c.if-refused.false, ← third, ← c.if-eq.ensures), c.requires.1.1.0)
 
 pub next-h-requires : goal.next-h-requires
 next-h-requires c = let a = c.requires.0 in omega (arith, c.requires.1.1.1.0, a.few)
@@ -42,6 +41,5 @@ turn_at-requires c =
 pub returns : goal.returns
 unfolding turn_once
 returns c =
-    let third = c.number-2.ensures ∙ c.next-2.ensures ∙ ap next c.next.ensures in
-    let away = ne_eqb _ _ (λ e. c.if-number.false (c.number.ensures ∙ e ∙ sym third)) in
-    (rw (← c.refused.ensures, c.if-refused.false, away, ← c.next-h.ensures, ← c.carry_prop.ensures) c.turn_at.ensures.0, c.turn_at.ensures.1)
+    let third = c.next-2.ensures ∙ ap next c.next.ensures in
+    (rw (← c.refused.ensures, c.if-refused.false, ← third, ← c.if-eq.ensures, ← c.next-h.ensures, ← c.carry_prop.ensures) c.turn_at.ensures.0, c.turn_at.ensures.1)

@@ -6,7 +6,7 @@ use Rattle.refused.specs.Refused.{plain_said}
 use Rattle.net.specs.Net.{net}
 use Rattle.net.proofs.Shape.{shaped_yes, within}
 use Rattle.splitting.proofs.Net.{sound_rows}
-use Rattle.split.proofs.Entry.{none_out, said_shape, said_short, said_refused, said_sound, sound_here, work_long, visit_long}
+use Rattle.split.proofs.Entry.{none_out, said_shape, said_short, said_refused, said_sound, sound_here}
 use Rattle.split.proofs.split_pinched_verts.Goals as goal
 
 pub returns-then-not-shaped : goal.returns-then-not-shaped
@@ -32,18 +32,14 @@ returns-in_err-check_rows c =
     rw (p.1, p.2)
     (said_refused _ _ _ _ (sym c.shaped.ensures ∙ c.if-not-shaped.false) (rw (c.long_enough.ensures, c.long_enough-2.ensures) at c.if-not-long_enough.false) _ c.in_err-check_rows.ensures)
 
-pub split_sound-requires : goal.split_sound-requires
-split_sound-requires c =
-    let a = c.args in
-    let n = net a.halfedges.now a.positions.now a.normals.now a.references.now a.properties.now in
-    let long = rw (c.long_enough.ensures, c.long_enough-2.ensures) at c.if-not-long_enough.false in
-    let s = sound_here a.counts n a.work.now a.visit.now (sym c.shaped.ensures ∙ c.if-not-shaped.false) (none_out _ (sym (ap plain_said c.in_ok-check_rows.was) ∙ c.check_rows.ensures)) in
-    record {
-      sound = sound_rows a.counts n s;
-      work_long = work_long a.counts n a.work.now a.visit.now long;
-      visit_long = visit_long a.counts n a.work.now a.visit.now long;
-      vertices_fit = s.shaped.vertices_fit;
-    }
+pub split_sound-requires-clause-sound : goal.split_sound-requires-clause-sound
+split_sound-requires-clause-sound c =
+    sound_rows _ _
+    (sound_here c.args.counts (net c.args.halfedges.now c.args.positions.now c.args.normals.now c.args.references.now c.args.properties.now) c.args.work.now c.args.visit.now (sym c.shaped.ensures ∙ c.if-not-shaped.false)
+    (none_out _ (sym (ap plain_said c.in_ok-check_rows.was) ∙ c.check_rows.ensures)))
+
+pub split_sound-requires-clause-vertices_fit : goal.split_sound-requires-clause-vertices_fit
+split_sound-requires-clause-vertices_fit c = (shaped_yes _ _ (sym c.shaped.ensures ∙ c.if-not-shaped.false)).vertices_fit
 
 pub returns : goal.returns
 returns c =

@@ -1,26 +1,11 @@
 -- `split::split_sound` meets its contract: what clearing leaves before and after is the same.
 use mathlib.Core.Path.{refl, sym, ap, ◌∙◌}
 use Prim.Native.Nat.{◌+◌}
-use native.Mathlib.Omega.{arith}
 use lib.ListN.{drop}
-use Rattle.laws.proofs.Stretches.{length_filled, filled_again}
+use Rattle.laws.proofs.Stretches.{filled_again}
 use Rattle.laws.specs.Stretches.{cleared}
 use Rattle.splitcleared.proofs.Stages.{with_work, sound_same}
 use Rattle.split.proofs.split_sound.Goals as goal
-
-pub split_cleared-said-requires : goal.split_cleared-said-requires
-split_cleared-said-requires c =
-    let a = c.args in
-    let p = c.requires in
-    let n = a.halfedges + a.vertices in
-    let e = c.fill.ensures in
-    record {
-      sound = p.sound;
-      work_long = rw (e, length_filled 0 0 n a.work.now (omega arith) p.work_long) p.work_long;
-      visit_long = p.visit_long;
-      vertices_fit = p.vertices_fit;
-      clear = ap (cleared n) e ∙ filled_again 0 n a.work.now _ _ refl refl ∙ sym e;
-    }
 
 pub returns : goal.returns
 returns c =

@@ -4,4 +4,4 @@ use Rattle.rowtold.specs.Told.{row_told}
 use Rattle.station.proofs.spoonferret_check_net.Goals as goal
 
 pub returns : goal.returns
-returns c = rw c.of_check.ensures (ap row_told (rw c.counts_of.ensures at c.check_net.ensures))
+returns c = rw c.from.ensures (ap row_told (rw c.into.ensures at c.check_net.ensures))

@@ -5,4 +5,4 @@ use Rattle.station.proofs.spoonferret_cleanup_topology.Goals as goal
 
 pub returns : goal.returns
 returns c =
-    rw c.of_cleanup.ensures (ap cleanup_left (rw c.counts_of.ensures at c.cleanup_topology.ensures))
+    rw c.from.ensures (ap cleanup_left (rw c.into.ensures at c.cleanup_topology.ensures))

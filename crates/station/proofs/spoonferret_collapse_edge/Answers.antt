@@ -6,4 +6,4 @@ use Rattle.station.proofs.spoonferret_collapse_edge.Goals as goal
 
 pub returns : goal.returns
 returns c =
-    rw c.of_collapse.ensures (ap collapse_left (rw (to_z-of_z c.ranges.halfedge, to_z-of_z c.ranges.first_new_vert, c.counts_of.ensures) at c.collapse_edge.ensures))
+    rw c.from.ensures (ap collapse_left (rw (to_z-of_z c.ranges.halfedge, to_z-of_z c.ranges.first_new_vert, c.into.ensures) at c.collapse_edge.ensures))

@@ -7,4 +7,4 @@ use Rattle.station.proofs.spoonferret_collapse_tri.Goals as goal
 
 pub returns : goal.returns
 returns c =
-    rw c.of_collapse.ensures (ap (and_left row_told) (rw (to_z-of_z c.ranges.halfedge, c.counts_of.ensures) at c.collapse_tri.ensures))
+    rw c.from.ensures (ap (and_left row_told) (rw (to_z-of_z c.ranges.halfedge, c.into.ensures) at c.collapse_tri.ensures))

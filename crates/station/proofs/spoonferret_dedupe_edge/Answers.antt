@@ -6,4 +6,4 @@ use Rattle.station.proofs.spoonferret_dedupe_edge.Goals as goal
 
 pub returns : goal.returns
 returns c =
-    rw c.of_edge.ensures (ap edge_left (rw (to_z-of_z c.ranges.halfedge, c.counts_of.ensures) at c.dedupe_edge.ensures))
+    rw c.from.ensures (ap edge_left (rw (to_z-of_z c.ranges.halfedge, c.into.ensures) at c.dedupe_edge.ensures))

@@ -5,4 +5,4 @@ use Rattle.station.proofs.spoonferret_dedupe_edges.Goals as goal
 
 pub returns : goal.returns
 returns c =
-    rw c.of_edges.ensures (ap edges_left (rw c.counts_of.ensures at c.dedupe_edges.ensures))
+    rw c.from.ensures (ap edges_left (rw c.into.ensures at c.dedupe_edges.ensures))

@@ -6,4 +6,4 @@ use Rattle.station.proofs.spoonferret_explain_row.Goals as goal
 
 pub returns : goal.returns
 returns c =
-    rw c.of_explain.ensures (ap explain_told (rw (to_z-of_z c.ranges.row, c.counts_of.ensures) at c.explain_row.ensures))
+    rw c.from.ensures (ap explain_told (rw (to_z-of_z c.ranges.row, c.into.ensures) at c.explain_row.ensures))

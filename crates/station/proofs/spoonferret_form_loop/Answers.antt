@@ -6,4 +6,4 @@ use Rattle.station.proofs.spoonferret_form_loop.Goals as goal
 
 pub returns : goal.returns
 returns c =
-    rw c.of_loop.ensures (ap loop_left (rw (to_z-of_z c.ranges.first, to_z-of_z c.ranges.second, c.counts_of.ensures) at c.form_loop.ensures))
+    rw c.from.ensures (ap loop_left (rw (to_z-of_z c.ranges.first, to_z-of_z c.ranges.second, c.into.ensures) at c.form_loop.ensures))

@@ -6,4 +6,4 @@ use Rattle.station.proofs.spoonferret_next_halfedge.Goals as goal
 
 pub returns : goal.returns
 returns c =
-    rw c.of_next.ensures (ap next_told (rw (to_z-of_z c.ranges.h) at c.next_halfedge.ensures))
+    rw c.from.ensures (ap next_told (rw (to_z-of_z c.ranges.h) at c.next_halfedge.ensures))

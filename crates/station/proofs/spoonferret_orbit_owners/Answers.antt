@@ -5,4 +5,4 @@ use Rattle.station.proofs.spoonferret_orbit_owners.Goals as goal
 
 pub returns : goal.returns
 returns c =
-    rw c.of_owners.ensures (ap owners_left (rw (c.counts_of.ensures, c.eligible_of.ensures) at c.orbit_owners.ensures))
+    rw c.from.ensures (ap owners_left (rw (c.into.ensures, c.eligible_of.ensures) at c.orbit_owners.ensures))

@@ -7,4 +7,4 @@ use Rattle.station.proofs.spoonferret_pair_up.Goals as goal
 
 pub returns : goal.returns
 returns c =
-    rw c.of_pair.ensures (ap (and_left told) (rw (to_z-of_z c.ranges.first, to_z-of_z c.ranges.second, c.counts_of.ensures) at c.pair_up.ensures))
+    rw c.from.ensures (ap (and_left told) (rw (to_z-of_z c.ranges.first, to_z-of_z c.ranges.second, c.into.ensures) at c.pair_up.ensures))

@@ -7,4 +7,4 @@ use Rattle.station.proofs.spoonferret_remove_if_folded.Goals as goal
 
 pub returns : goal.returns
 returns c =
-    rw c.of_remove.ensures (ap (and_left row_told) (rw (to_z-of_z c.ranges.halfedge, c.counts_of.ensures) at c.remove_if_folded.ensures))
+    rw c.from.ensures (ap (and_left row_told) (rw (to_z-of_z c.ranges.halfedge, c.into.ensures) at c.remove_if_folded.ensures))

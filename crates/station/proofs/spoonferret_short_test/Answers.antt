@@ -6,4 +6,4 @@ use Rattle.station.proofs.spoonferret_short_test.Goals as goal
 
 pub returns : goal.returns
 returns c =
-    rw c.of_length.ensures (ap length_told (rw (to_z-of_z c.ranges.end_vert, to_z-of_z c.ranges.first_new_vert, c.vector_of.ensures, c.vector_of-2.ensures) at c.short_test.ensures))
+    rw c.from.ensures (ap length_told (rw (to_z-of_z c.ranges.end_vert, to_z-of_z c.ranges.first_new_vert, c.into.ensures, c.into-2.ensures) at c.short_test.ensures))

@@ -5,4 +5,4 @@ use Rattle.station.proofs.spoonferret_split_pinched_verts.Goals as goal
 
 pub returns : goal.returns
 returns c =
-    rw c.of_split.ensures (ap split_left (rw c.counts_of.ensures at c.split_pinched_verts.ensures))
+    rw c.from.ensures (ap split_left (rw c.into.ensures at c.split_pinched_verts.ensures))

@@ -5,4 +5,4 @@ use Rattle.told.specs.Told.{tri_told}
 use Rattle.station.proofs.spoonferret_tri_of.Goals as goal
 
 pub returns : goal.returns
-returns c = rw c.of_tri.ensures (ap tri_told (rw (to_z-of_z c.ranges.h) at c.tri_of.ensures))
+returns c = rw c.from.ensures (ap tri_told (rw (to_z-of_z c.ranges.h) at c.tri_of.ensures))

@@ -7,4 +7,4 @@ use Rattle.station.proofs.spoonferret_update_vert.Goals as goal
 
 pub returns : goal.returns
 returns c =
-    rw c.of_update.ensures (ap (and_left update_told) (rw (to_z-of_z c.ranges.vertex, to_z-of_z c.ranges.start, to_z-of_z c.ranges.end, c.counts_of.ensures) at c.update_vert.ensures))
+    rw c.from.ensures (ap (and_left update_told) (rw (to_z-of_z c.ranges.vertex, to_z-of_z c.ranges.start, to_z-of_z c.ranges.end, c.into.ensures) at c.update_vert.ensures))
