@@ -1,6 +1,6 @@
 // Numbers read from text: whatever is no digit and no minus sign stands between them.
 ghost use Rattle.std.specs.Prelude.{◌≡◌, ◌≤◌, length};
-ghost use Rattle.calltext.specs.Scan.{begins, first_from, with_digit, digits_at, number_from, signed_of, count_of, word_of, byte_of, list_from};
+ghost use Rattle.calltext.specs.Scan.{begins, first_from, with_digit, digits_at, number_from, signed_of, count_of, word_of, byte_of, list_from, read_of, place_of};
 
 // A number, and the place behind it.
 #[derive(Clone, Copy)]
@@ -147,4 +147,35 @@ pub fn list<T: Readable>(file: &[u8], at: usize, into: &mut [T]) -> Listed
         next = scanned.next;
     }
     Listed { length, next }
+}
+
+// Stored calls, and the place behind what was read of them.
+#[derive(Clone, Copy)]
+pub struct Stored<'a> {
+    pub file: &'a [u8],
+    pub at: usize,
+}
+
+impl Stored<'_> {
+    // The next number.
+    pub fn number(&mut self) -> Scanned
+        ensures file { self.new.file ≡ self.old.file }
+        ensures read { result ≡ number_from self.old.file.now self.old.at }
+        ensures place { self.new.at ≡ result.next }
+    {
+        let scanned = number(self.file, self.at);
+        self.at = scanned.next;
+        scanned
+    }
+
+    // The next list, as much of it as the buffer has room for.
+    pub fn list<'b, T: Readable>(&mut self, buffer: &'b mut [T]) -> &'b mut [T]
+        ensures file { self.new.file ≡ self.old.file }
+        ensures read { result.now ≡ read_of (list_from T.read_as self.old.file.now self.old.at buffer.old) }
+        ensures place { self.new.at ≡ place_of (list_from T.read_as self.old.file.now self.old.at buffer.old) }
+    {
+        let listed = list(self.file, self.at, buffer);
+        self.at = listed.next;
+        &mut buffer[..listed.length]
+    }
 }

@@ -1,6 +1,6 @@
 -- What an exported function tells its caller of what was said that carries counts: the number, and each value that came with it; 0 for a value
 -- that did not come.
-use Rattle.answers.specs.Answers.{Said, value, counted}
+use Rattle.answers.specs.Answers.{Said}
 use Rattle.told.specs.Told.{count_on}
 use Rattle.counttold.specs.declared.SplitAnswer.{SplitAnswer}
 use Rattle.counttold.specs.declared.OwnersAnswer.{OwnersAnswer}

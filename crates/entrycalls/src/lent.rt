@@ -1,5 +1,6 @@
-// What stored calls lend and ask, read from their text, and the pages on which their answers are put.
-use calltext::scan::{self, Readable, Scanned};
+// What stored calls lend and ask, and the pages on which their answers are put.
+ghost use Rattle.std.specs.Prelude.{◌≡◌};
+
 use calltext::show::Page;
 use std::io;
 use told::Used;
@@ -17,7 +18,14 @@ pub struct Lent<'a> {
 
 impl Lent<'_> {
     // Its parts, in the order in which the exported functions take them.
-    pub fn parts(&mut self) -> (Used, &mut [i32], &mut [u64], &mut [u64], &mut [i32], &[u64]) {
+    pub fn parts(&mut self) -> (Used, &mut [i32], &mut [u64], &mut [u64], &mut [i32], &[u64])
+        ensures used { result.0 ≡ self.old.used }
+        ensures halfedges { result.1.now ≡ self.old.halfedges.now }
+        ensures positions { result.2.now ≡ self.old.positions.now }
+        ensures normals { result.3.now ≡ self.old.normals.now }
+        ensures references { result.4.now ≡ self.old.references.now }
+        ensures properties { result.5.now ≡ self.old.properties.now }
+    {
         let Lent {
             used,
             halfedges,
@@ -36,28 +44,6 @@ pub struct Asked {
     pub numbers: [i32; 8],
     pub floats: [u64; 12],
     pub choice: bool,
-}
-
-// Stored calls, and the place behind what was read of them.
-#[derive(Clone, Copy)]
-pub struct Stored<'a> {
-    pub file: &'a [u8],
-    pub at: usize,
-}
-
-impl Stored<'_> {
-    pub fn number(&mut self) -> Scanned {
-        let scanned = scan::number(self.file, self.at);
-        self.at = scanned.next;
-        scanned
-    }
-
-    // The next list, as much of it as the buffer has room for.
-    pub fn list<'b, T: Readable>(&mut self, buffer: &'b mut [T]) -> &'b mut [T] {
-        let listed = scan::list(self.file, self.at, buffer);
-        self.at = listed.next;
-        &mut buffer[..listed.length]
-    }
 }
 
 // How many bytes of an answer, and of buffers as they are left, are written at the most.

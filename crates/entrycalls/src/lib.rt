@@ -4,7 +4,8 @@
 
 pub mod lent;
 
-use lent::{ANSWER, Asked, BUFFERS, Lent, Stored, print};
+use calltext::scan::Stored;
+use lent::{ANSWER, Asked, BUFFERS, Lent, print};
 use std::io;
 use told::Point;
 

@@ -2,7 +2,8 @@
 // buffers as they are left.
 #![tactic(auto)]
 
-use entrycalls::lent::{ANSWER, Asked, BUFFERS, Lent, Stored, print};
+use calltext::scan::Stored;
+use entrycalls::lent::{ANSWER, Asked, BUFFERS, Lent, print};
 use entrycalls::print_spares;
 use repairtold::{CleanupTopologyAnswer, DedupeEdgeAnswer, DedupeEdgesAnswer};
 use std::io;

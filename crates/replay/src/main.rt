@@ -9,9 +9,9 @@
 
 mod entry;
 
-use calltext::scan;
+use calltext::scan::{self, Stored};
 use entry::Entry;
-use entrycalls::lent::{Asked, BUFFERS, Lent, Stored, print};
+use entrycalls::lent::{Asked, BUFFERS, Lent, print};
 use std::rt::Files;
 use std::{env, fs, io};
 use told::Used;

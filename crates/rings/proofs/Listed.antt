@@ -10,8 +10,7 @@ use lib.Dec.{eqb, ltb}
 use lib.IntN.{ℤ}
 use lib.ListN.{length, get_or, set, take, drop, length-set, length-append, get_or-append}
 use Rattle.std.specs.List.{position_from}
-use Rattle.std.proofs.lemmas.List.{drop_more, length-take-le, get_or-take}
-use Rattle.std.proofs.lemmas.Grind.{get_or_default_zero}
+use Rattle.std.proofs.lemmas.List.{drop_all, drop_more, get_or-take}
 use lib.Seq.{take-suc-set, drop-set-lt, append_snoc, get_or-append-add}
 use Rattle.laws.specs.Integers.{eq_z}
 use Rattle.laws.proofs.Tests.{by_test}
@@ -121,14 +120,23 @@ module _ (H to : ℕ) (rows : List ℤ) where
 -- ---- the search in the list
 module _ (rows : List ℤ) (z : ℤ) (list : List ℕ) where
   -- the first of the entries that ends there, as `position` finds it, is the first that the search finds
-  pub found : (n k : ℕ) → k + n ≤ length list → hit (position_from (λ g. eq_z z (end_of rows g)) k (take n (drop k list))) ≡ find rows z list k n
+  found_from : (n k : ℕ) → k + n ≡ length list → hit (position_from (λ g. eq_z z (end_of rows g)) k (drop k list)) ≡ find rows z list k n
   unfolding find
-  found zero k b = refl
-  found (suc n) k b =
+  found_from zero k b = rw (drop_all k list (omega arith))
+  found_from (suc n) k b =
       rw (drop_more list k 0 (omega arith))
       (by_test (eq_z z (end_of rows (get_or list k 0)))
       (λ t. rw t)
-      (λ t. rw t (found n (k + 1) (omega arith))))
+      (λ t. rw t (found_from n (k + 1) (omega arith))))
+
+  pub found : hit (position_from (λ g. eq_z z (end_of rows g)) 0 list) ≡ find rows z list 0 (length list)
+  found = found_from (length list) 0 (omega arith)
+
+  -- the search in the first entries reads no others
+  pub find_taken : (len n k : ℕ) → k + n ≤ len → find rows z (take len list) k n ≡ find rows z list k n
+  unfolding find
+  find_taken len zero k b = refl
+  find_taken len (suc n) k b = rw (get_or-take len list k 0 (omega arith), find_taken len n (k + 1) (omega arith))
 
   -- what is found is one of them
   pub find_below : (n k : ℕ) {j : ℕ} → find rows z list k n ≡ at j → j < k + n
@@ -138,12 +146,6 @@ module _ (rows : List ℤ) (z : ℤ) (list : List ℕ) where
       by_test (eq_z z (end_of rows (get_or list k 0)))
       (λ t. let i = at_inj (rw t at e) in omega arith)
       (λ t. let i = find_below n (k + 1) (rw t at e) in omega arith)
-
--- each of the first entries is in use
-pub below_taken : (H n : ℕ) (list : List ℕ) → n ≤ length list → AllIn H list → (k d : ℕ) → k < length (take n list) → get_or (take n list) k d < H
-below_taken H n list l a k d i =
-    let b : k < n = omega (arith, i, length-take-le n list l) in
-    rw (get_or-take n list k d b, get_or_default_zero list k d (omega arith)) (a k (omega arith))
 
 -- what is listed is in use
 abbrev pub ListingIn : ℕ → Listing → Type 0

@@ -45,12 +45,12 @@ pub fn entry(list: &[u32], k: usize) -> Halfedge
     numbers::halfedge_counted(list[k] as usize)
 }
 
-// The place of the first of `len` entries that ends where h does.
-pub fn find(rows: &[i32], list: &[u32], halfedges: usize, len: usize, h: Halfedge) -> Option<usize>
-    requires { (halfedge_number h < halfedges) × (InUse halfedges rows.now × ((len ≤ length list.now) × AllIn halfedges list.now)) }
-    ensures { hit result ≡ find rows.now (end_of rows.now (halfedge_number h)) list.now 0 len }
+// The place of the first entry of the list that ends where h does.
+pub fn find(rows: &[i32], list: &[u32], halfedges: usize, h: Halfedge) -> Option<usize>
+    requires { (halfedge_number h < halfedges) × (InUse halfedges rows.now × AllIn halfedges list.now) }
+    ensures { hit result ≡ find rows.now (end_of rows.now (halfedge_number h)) list.now 0 (length list.now) }
 {
-    list[..len].iter().position(|&g| {
+    list.iter().position(|&g| {
         let listed = numbers::halfedge_counted(g as usize);
         edgetests::same_end(rows, h, listed)
     })

@@ -1,11 +1,21 @@
 -- A turn of the loop about the start, and its ways out: what is left of the loop is the whole of it.
-use mathlib.Core.Path.{◌≡◌, refl}
-use Prim.Native.Nat.{ℕ, zero, suc, ◌+◌, ◌-◌, ◌*◌, ◌<◌, ◌≤◌}
+use mathlib.Core.Path.{◌≡◌, refl, ap, ◌∙◌}
+use mathlib.Core.List.{List}
+use lib.IntN.{ℤ}
+use lib.ListN.{length, get_or, take}
+use Rattle.std.proofs.lemmas.List.{get_or-take, length-take, length-take-le, take-take}
+use Rattle.numbers.specs.Numbers.{Named, at, nothing, names, named_or, halfedge_number}
+use Rattle.rows.specs.Halfedges.{end_of, pair_of}
+use Rattle.rings.specs.Ring.{find}
+use Rattle.rings.proofs.Listed.{find_below, find_taken}
+use Rattle.carrying.specs.Carried.{carried}
+use Rattle.spinning.specs.declared.Ends.{Ends}
+use Prim.Native.Nat.{ℕ, min, zero, suc, ◌+◌, ◌-◌, ◌*◌, ◌<◌, ◌≤◌}
 use native.Mathlib.Nat.{mul-le-mul_right}
 use native.Mathlib.Omega.{arith}
 use Rattle.numbers.specs.Next.{next}
-use Rattle.steps.specs.Steps.{Middle}
-use Rattle.spinning.specs.Spin.{out, on, formed, Fixed, turn_once, tired, spun, inner, spin}
+use Rattle.steps.specs.Steps.{Middle, with_rows}
+use Rattle.spinning.specs.Spin.{out, on, formed, formed_at, Fixed, fixed, Around, turn_at, turn_once, tired, spun, inner, spin}
 
 module _ (s : Fixed) where
   pub spin_out : (r left start len c : ℕ) (m : Middle) {k : Middle} → 0 < left → out k ≡ turn_once s len c m → spun k start ≡ spin r s left start len c m
@@ -34,6 +44,55 @@ module _ (s : Fixed) where
   spin_last zero zero start len c m b = refl
   spin_last (suc r) zero start len c m b = refl
   spin_last r (suc left) start len c m b = absurd (omega arith)
+
+-- a turn with the first entries of a list reads no others
+module _ (H capacity : ℕ) (list : List ℕ) (len h : ℕ) (m : Middle) where
+  at_taken : turn_at H capacity (take len list) len h m ≡ turn_at H capacity list len h m
+  unfolding turn_at
+  at_taken = go (names (pair_of m.halfedges h) H)
+    where
+      z : ℤ
+      z = end_of m.halfedges h
+
+      met : (q : ℕ) (w : Named) → find m.halfedges z list 0 len ≡ w →
+          named_or (on m q) w (λ k. formed_at H capacity (take len list) h q k m) ≡ named_or (on m q) w (λ k. formed_at H capacity list h q k m)
+      met q nothing e = refl
+      met q (at k) e = let b = find_below m.halfedges z list len 0 e in rw (get_or-take len list k 0 (omega (arith, b)))
+
+      go : (w : Named) →
+          named_or (out m) w (λ q. named_or (on m q) (find m.halfedges z (take len list) 0 len) (λ k. formed_at H capacity (take len list) h q k m))
+          ≡ named_or (out m) w (λ q. named_or (on m q) (find m.halfedges z list 0 len) (λ k. formed_at H capacity list h q k m))
+      go nothing = refl
+      go (at q) = rw (find_taken m.halfedges z list len len 0 (omega arith)) (met q (find m.halfedges z list 0 len) refl)
+
+once_taken : (ends : Ends) (references : List ℤ) (list : List ℕ) (len c : ℕ) (m : Middle) →
+    turn_once (fixed ends references (take len list)) len c m ≡ turn_once (fixed ends references list) len c m
+unfolding turn_once
+once_taken ends references list len c m =
+    rw (at_taken ends.halfedges ends.capacity list len (next c) (with_rows (carried ends.props references (halfedge_number ends.edge) (halfedge_number ends.partner) (next c) m.halfedges) m))
+
+pub turn_taken : (ends : Ends) (references : List ℤ) (list part : List ℕ) (c : ℕ) (m : Middle) → part ≡ take (length part) list →
+    turn_once (fixed ends references part) (length part) c m ≡ turn_once (fixed ends references list) (length part) c m
+turn_taken ends references list part c m e =
+    ap (λ (l : List ℕ). turn_once (fixed ends references l) (length part) c m) e ∙ once_taken ends references list (length part) c m
+
+-- a list that is the first entries of one that goes with the edge goes with it too, and so does what it is cut to
+pub around_part : {ends : Ends} {references : List ℤ} {list part : List ℕ} → Around ends references list → part ≡ take (length part) list → Around ends references part
+around_part {ends} {references} {list} {part} a e = record {
+  edge_in = a.edge_in;
+  partner_in = a.partner_in;
+  thirds = a.thirds;
+  few = a.few;
+  room = a.room;
+  faces = a.faces;
+  all_in = λ k i.
+      let n : length part ≡ min (length part) (length list) = ap length e ∙ length-take (length part) list in
+      let g : get_or part k 0 ≡ get_or list k 0 = ap (λ (l : List ℕ). get_or l k 0) e ∙ get_or-take (length part) list k 0 i in
+      rw g (a.all_in k (omega (arith, n, i)));
+}
+
+pub part_cut : (k : ℕ) (list part : List ℕ) → part ≡ take (length part) list → k ≤ length part → take k part ≡ take (length (take k part)) list
+part_cut k list part e b = rw (length-take-le k part b) (ap (take k) e ∙ take-take k (length part) list b)
 
 -- the measure: entries that are left of the list, then moves
 pub fewer : (k len H left : ℕ) → k < len → k * (H + 1) + H < len * (H + 1) + left

@@ -44,23 +44,22 @@ fn turn_at(
     rows: &mut [i32],
     positions: &mut [u64],
     list: &[u32],
-    halfedges: usize,
-    capacity: usize,
+    ends: Ends,
     run: Run,
-    len: usize,
     h: Halfedge,
 ) -> Turn
-    requires { ((halfedge_number h < halfedges) × InUse halfedges rows.old) × (((run.vertices ≤ capacity) × VerticesIn capacity positions.old) × ((len ≤ length list.now) × AllIn halfedges list.now)) }
-    ensures { (turned result rows.new positions.new ≡ turn_at halfedges capacity list.now len (halfedge_number h) (middle rows.old positions.old run)) × Ready halfedges capacity len result }
+    requires { ((halfedge_number h < ends.halfedges) × InUse ends.halfedges rows.old) × (((run.vertices ≤ ends.capacity) × VerticesIn ends.capacity positions.old) × AllIn ends.halfedges list.now) }
+    ensures { (turned result rows.new positions.new ≡ turn_at ends.halfedges ends.capacity list.now (length list.now) (halfedge_number h) (middle rows.old positions.old run)) × Ready ends.halfedges ends.capacity (length list.now) result }
 {
+    let halfedges = ends.halfedges;
     let Some(q) = rows::halfedges::pair_of(rows, h, halfedges) else {
         return Turn::Out(run);
     };
-    let Some(k) = rings::find(rows, list, halfedges, len, h) else {
+    let Some(k) = rings::find(rows, list, halfedges, h) else {
         return Turn::On(run, q);
     };
     let g = rings::entry(list, k);
-    let r = loops::loop_step(rows, positions, halfedges, capacity, run, g, h);
+    let r = loops::loop_step(rows, positions, halfedges, ends.capacity, run, g, h);
     Turn::Formed(r, q, k)
 }
 
@@ -72,11 +71,10 @@ fn turn_once(
     list: &[u32],
     ends: Ends,
     run: Run,
-    len: usize,
     at: Halfedge,
 ) -> Turn
-    requires { Around ends references.now list.now × (((ends.halfedges ≤ lent_halfedges rows.old) × (ends.capacity ≤ lent_triples positions.old)) × ((run.vertices ≤ ends.capacity) × ((halfedge_number at < ends.halfedges) × (len ≤ length list.now)))) }
-    ensures { (turned result rows.new positions.new ≡ turn_once (fixed ends references.now list.now) len (halfedge_number at) (middle rows.old positions.old run)) × Ready ends.halfedges ends.capacity len result }
+    requires { Around ends references.now list.now × (((ends.halfedges ≤ lent_halfedges rows.old) × (ends.capacity ≤ lent_triples positions.old)) × ((run.vertices ≤ ends.capacity) × (halfedge_number at < ends.halfedges))) }
+    ensures { (turned result rows.new positions.new ≡ turn_once (fixed ends references.now list.now) (length list.now) (halfedge_number at) (middle rows.old positions.old run)) × Ready ends.halfedges ends.capacity (length list.now) result }
 {
     if steps::refused(run) {
         return Turn::Out(run);
@@ -88,16 +86,7 @@ fn turn_once(
     let p = ends.partner;
     let h = at.next();
     carrying::carry_prop(rows, references, ends.halfedges, ends.props, e, p, h);
-    turn_at(
-        rows,
-        positions,
-        list,
-        ends.halfedges,
-        ends.capacity,
-        run,
-        len,
-        h,
-    )
+    turn_at(rows, positions, list, ends, run, h)
 }
 
 // No move is left: the steps stop, but where the loop stands at its end.
@@ -129,10 +118,10 @@ pub fn spin(
     let mut run = begun;
     let mut at = first;
     let mut start = first;
-    let mut len = list.len();
+    let mut list = list;
     let mut left = ends.halfedges;
     while 0 < left {
-        match turn_once(rows, positions, references, list, ends, run, len, at) {
+        match turn_once(rows, positions, references, list, ends, run, at) {
             Turn::Out(r) => {
                 return Last { run: r, start };
             }
@@ -145,7 +134,7 @@ pub fn spin(
                 run = r;
                 at = q;
                 start = q;
-                len = k;
+                list = &list[..k];
                 left = ends.halfedges;
             }
         }

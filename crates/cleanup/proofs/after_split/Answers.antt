@@ -10,4 +10,4 @@ pub returns-in-Ok : goal.returns-in-Ok
 returns-in-Ok c = rw (c.in-Ok.is, c.begun.ensures)
 
 pub returns-in-Err : goal.returns-in-Err
-returns-in-Err c = rw (c.in-Err.is, c.no_room.ensures, c.begun.ensures, refused_number c.in-Err.field-0)
+returns-in-Err c = rw (c.in-Err.is, c.no_room.ensures, c.begun-in-Err.ensures, refused_number c.in-Err.field-0)

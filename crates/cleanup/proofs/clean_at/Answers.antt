@@ -23,7 +23,7 @@ split_sound-said-requires c =
     let p = c.requires in
     let wl : s.halfedges + s.vertices ≤ length s.work.now = omega (arith, p.1.1.work_long, p.1.0.rows_fit.within_capacity) in
     let ll : s.halfedges ≤ length s.list.now = omega (arith, p.1.1.list_long, p.1.0.rows_fit.within_capacity) in
-    (p.0.0, (wl, (ll, omega (arith, p.0.1, p.1.0.vertices_fit.within_vertices))))
+    record { sound = p.0.0; work_long = wl; visit_long = ll; vertices_fit = omega (arith, p.0.1, p.1.0.vertices_fit.within_vertices) }
 
 pub after_split-requires : goal.after_split-requires
 after_split-requires c =

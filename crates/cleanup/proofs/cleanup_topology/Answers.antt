@@ -3,11 +3,11 @@ use mathlib.Core.Path.{sym, ap, ◌∙◌}
 use native.Mathlib.Omega.{arith}
 use borrow.Author.Tests.{leb-true}
 use Rattle.laws.proofs.Tests.{and2}
-use Rattle.numbers.specs.Numbers.{halfedge_named}
+use Rattle.refused.specs.Refused.{plain_said}
 use Rattle.net.specs.Net.{net}
 use Rattle.net.proofs.Shape.{shaped_yes, within}
 use Rattle.splitting.proofs.Net.{sound_rows}
-use Rattle.split.proofs.Entry.{sound_here}
+use Rattle.split.proofs.Entry.{none_out, sound_here}
 use Rattle.std.proofs.lemmas.Result.{err_from_is_err_and}
 use Rattle.refused.proofs.Laws.{refused_number}
 use Rattle.settling.proofs.Entry.{begun_fits}
@@ -36,7 +36,7 @@ pub clean_at-requires : goal.clean_at-requires
 clean_at-requires c =
     let s = c.args in
     let n = net s.halfedges.now s.positions.now s.normals.now s.references.now s.properties.now in
-    let o = sound_here s.counts n s.work.now s.list.now (sym c.shaped.ensures ∙ c.if-not-shaped.false) (sym c.first_out.ensures ∙ ap halfedge_named c.in-None.is) in
+    let o = sound_here s.counts n s.work.now s.list.now (sym c.shaped.ensures ∙ c.if-not-shaped.false) (none_out _ (sym (ap plain_said c.in_ok-check_rows.was) ∙ c.check_rows.ensures)) in
     let t = and2 _ _ (sym c.enough.ensures ∙ c.if-not-enough.false) in
     let u = and2 _ _ t.0 in
     let v = and2 _ _ u.0 in

@@ -1,20 +1,23 @@
 -- `spinning::spin` meets its contract: what is left of the loop is the whole loop. Each way out of a turn is one law.
-use mathlib.Core.Path.{refl, ap, ◌∙◌}
+use mathlib.Core.Path.{refl, sym, ap, ◌∙◌}
+use Prim.Native.Nat.{◌-◌}
+use lib.ListN.{length}
 use native.Mathlib.Omega.{arith}
+use lib.Seq.{take-length, length-take-le}
 use Rattle.numbers.proofs.NextLaws.{next_in}
 use Rattle.steps.specs.Steps.{Middle, middle}
 use Rattle.spinning.specs.Spin.{fixed, spun}
-use Rattle.spinning.proofs.Turns.{spin_out, spin_on, spin_formed, spin_last, fewer}
+use Rattle.spinning.proofs.Turns.{turn_taken, around_part, part_cut, spin_out, spin_on, spin_formed, spin_last, fewer}
 use Rattle.spinning.proofs.spin.Goals as goal
 
 pub loop-left-init : goal.loop-left-init
-loop-left-init c = let p = c.requires.1.1 in (p.1, p.0, p.1, omega arith, refl, refl, (_, omega arith, refl))
+loop-left-init c = let p = c.requires.1.1 in (p.1, p.0, p.1, sym (take-length c.args.list.now), refl, refl, (_, omega arith, refl))
 
 pub turn_once-requires : goal.turn_once-requires
 turn_once-requires c =
     let p = c.requires in
     let i = c.loop-left.invariant in
-    (p.0, ((omega (arith, p.1.0.0, i.4), omega (arith, p.1.0.1, i.5)), (i.1, (i.0, i.3))))
+    (around_part p.0 i.3, ((omega (arith, p.1.0.0, i.4), omega (arith, p.1.0.1, i.5)), (i.1, i.0)))
 
 pub shape_of-rows-in-Out : goal.shape_of-rows-in-Out
 shape_of-rows-in-Out c = c.turn_once.auto.rows ∙ c.loop-left.invariant.4
@@ -26,8 +29,9 @@ pub returns-in-Out : goal.returns-in-Out
 returns-in-Out c =
     let a = c.args in
     let l = c.loop-left in
+    let w = turn_taken a.ends a.references.now a.list.now l.list.now l.at.0 (middle l.rows l.positions l.run) l.invariant.3 in
     let e = rw c.in-Out.is at c.turn_once.ensures in
-    (spin_out (fixed a.ends a.references.now a.list.now) l.invariant.6.0 l.left l.start.0 l.len l.at.0 (middle l.rows l.positions l.run) c.loop-left-test.true e.0 ∙ l.invariant.6.2, (e.1, l.invariant.2))
+    (spin_out (fixed a.ends a.references.now a.list.now) l.invariant.6.0 l.left l.start.0 (length l.list.now) l.at.0 (middle l.rows l.positions l.run) c.loop-left-test.true (e.0 ∙ w) ∙ l.invariant.6.2, (e.1, l.invariant.2))
 
 pub loop-left-smaller-in-On : goal.loop-left-smaller-in-On
 loop-left-smaller-in-On c = omega arith
@@ -36,6 +40,7 @@ pub loop-left-preserved-in-On : goal.loop-left-preserved-in-On
 loop-left-preserved-in-On c =
     let a = c.args in
     let l = c.loop-left in
+    let w = turn_taken a.ends a.references.now a.list.now l.list.now l.at.0 (middle l.rows l.positions l.run) l.invariant.3 in
     let e = rw c.in-On.is at c.turn_once.ensures in (
       e.1.1,
       e.1.0,
@@ -43,26 +48,29 @@ loop-left-preserved-in-On c =
       l.invariant.3,
       c.turn_once.auto.rows ∙ l.invariant.4,
       c.turn_once.auto.positions ∙ l.invariant.5,
-      (_, l.invariant.6.1, spin_on (fixed a.ends a.references.now a.list.now) l.invariant.6.0 l.left l.start.0 l.len l.at.0 (middle l.rows l.positions l.run) c.loop-left-test.true e.0 ∙ l.invariant.6.2),
+      (_, l.invariant.6.1, spin_on (fixed a.ends a.references.now a.list.now) l.invariant.6.0 l.left l.start.0 (length l.list.now) l.at.0 (middle l.rows l.positions l.run) c.loop-left-test.true (e.0 ∙ w) ∙ l.invariant.6.2),
     )
 
 pub loop-left-smaller : goal.loop-left-smaller
 loop-left-smaller c =
     let e = rw c.in-Formed.is at c.turn_once.ensures in
-    fewer _ c.loop-left.len c.args.ends.halfedges c.loop-left.left e.1.1.1
+    rw (length-take-le c.in-Formed.k c.loop-left.list.now (omega (arith, e.1.1.1)))
+    (fewer _ (length c.loop-left.list.now) c.args.ends.halfedges c.loop-left.left e.1.1.1)
 
 pub loop-left-preserved : goal.loop-left-preserved
 loop-left-preserved c =
     let a = c.args in
     let l = c.loop-left in
+    let w = turn_taken a.ends a.references.now a.list.now l.list.now l.at.0 (middle l.rows l.positions l.run) l.invariant.3 in
     let e = rw c.in-Formed.is at c.turn_once.ensures in (
       e.1.1.0,
       e.1.0,
       e.1.1.0,
-      omega (arith, e.1.1.1, l.invariant.3),
+      part_cut _ a.list.now l.list.now l.invariant.3 (omega (arith, e.1.1.1)),
       c.turn_once.auto.rows ∙ l.invariant.4,
       c.turn_once.auto.positions ∙ l.invariant.5,
-      (_, omega (arith, e.1.1.1, l.invariant.6.1), spin_formed (fixed a.ends a.references.now a.list.now) l.invariant.6.0 l.left l.start.0 l.len l.at.0 (middle l.rows l.positions l.run) c.loop-left-test.true (omega (arith, e.1.1.1, l.invariant.6.1)) e.0 ∙ l.invariant.6.2),
+      rw (length-take-le c.in-Formed.k l.list.now (omega (arith, e.1.1.1)))
+          (l.invariant.6.0 - 1, omega (arith, e.1.1.1, l.invariant.6.1), spin_formed (fixed a.ends a.references.now a.list.now) l.invariant.6.0 l.left l.start.0 (length l.list.now) l.at.0 (middle l.rows l.positions l.run) c.loop-left-test.true (omega (arith, e.1.1.1, l.invariant.6.1)) (e.0 ∙ w) ∙ l.invariant.6.2),
     )
 
 pub next-requires : goal.next-requires
@@ -82,4 +90,4 @@ returns c =
     let a = c.args in
     let l = c.loop-left in
     let t = rw (c.next-2.ensures, c.next.ensures) at (c.tired.ensures.0 l.rows l.positions) in
-    (ap (λ (m : Middle). spun m l.start.0) t ∙ spin_last (fixed a.ends a.references.now a.list.now) l.invariant.6.0 l.left l.start.0 l.len l.at.0 (middle l.rows l.positions l.run) c.loop-left-test.false ∙ l.invariant.6.2, (rw c.tired.ensures.1 l.invariant.1, l.invariant.2))
+    (ap (λ (m : Middle). spun m l.start.0) t ∙ spin_last (fixed a.ends a.references.now a.list.now) l.invariant.6.0 l.left l.start.0 (length l.list.now) l.at.0 (middle l.rows l.positions l.run) c.loop-left-test.false ∙ l.invariant.6.2, (rw c.tired.ensures.1 l.invariant.1, l.invariant.2))

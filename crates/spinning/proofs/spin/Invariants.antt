@@ -1,7 +1,7 @@
 -- `spinning::spin` meets its contract: what is left of the loop is the whole loop. Each way out of a turn is one law.
 use mathlib.Core.Path.{◌≡◌}
 use Prim.Native.Nat.{ℕ, ◌≤◌, ◌<◌, ◌+◌, ◌*◌}
-use lib.ListN.{length}
+use lib.ListN.{length, take}
 use Rattle.numbers.specs.Numbers.{halfedge_number}
 use Rattle.steps.specs.Steps.{middle}
 use Rattle.spinning.specs.Spin.{fixed, spin}
@@ -12,14 +12,14 @@ invariant-loop-left l =
     (halfedge_number l.at < l.ends.halfedges)
     × (l.run.vertices ≤ l.ends.capacity)
     × (halfedge_number l.start < l.ends.halfedges)
-    × (l.len ≤ length l.list)
+    × (l.list ≡ take (length l.list) l.initial.list)
     × (length l.rows ≡ length l.initial.rows)
     × (length l.positions ≡ length l.initial.positions)
     × ((loops : ℕ)
-    × (l.len ≤ loops)
-    × (spin loops (fixed l.ends l.references l.list) l.left (halfedge_number l.start) l.len (halfedge_number l.at) (middle l.rows l.positions l.run)
-    ≡ spin (length l.list) (fixed l.ends l.references l.list) l.ends.halfedges (halfedge_number l.initial.at) (length l.list) (halfedge_number l.initial.at) (middle l.initial.rows l.initial.positions l.initial.run)))
+    × (length l.list ≤ loops)
+    × (spin loops (fixed l.ends l.references l.initial.list) l.left (halfedge_number l.start) (length l.list) (halfedge_number l.at) (middle l.rows l.positions l.run)
+    ≡ spin (length l.initial.list) (fixed l.ends l.references l.initial.list) l.ends.halfedges (halfedge_number l.initial.at) (length l.initial.list) (halfedge_number l.initial.at) (middle l.initial.rows l.initial.positions l.initial.run)))
 
 abbrev pub decreases-loop-left : goal.decreases-loop-left
 decreases-loop-left l =
-    l.len * (l.ends.halfedges + 1) + l.left
+    length l.list * (l.ends.halfedges + 1) + l.left

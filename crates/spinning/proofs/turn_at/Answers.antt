@@ -20,24 +20,24 @@ returns-in_default-find c =
     let s = c.args in
     let e = rw c.in-Some.is at c.pair_of.ensures in
     let f = rw c.in_default-find.is at c.find.ensures in
-    (rw (← e, ← f), (c.requires.1.0.0, names_below (pair_of s.rows.now s.h.0) s.halfedges (sym e)))
+    (rw (← e, ← f), (c.requires.1.0.0, names_below (pair_of s.rows.now s.h.0) s.ends.halfedges (sym e)))
 
 pub entry-g-requires : goal.entry-g-requires
 entry-g-requires c =
     let s = c.args in
     let p = c.requires in
     let f = rw c.in-Some-find.is at c.find.ensures in
-    let l = find_below s.rows.now (end_of s.rows.now s.h.0) s.list.now s.len 0 (sym f) in
-    let b = p.1.1.1 c.in-Some-find.k (omega (arith, l, p.1.1.0)) in
-    (omega (arith, l, p.1.1.0), omega (arith, b, p.0.1.1.1))
+    let l = find_below s.rows.now (end_of s.rows.now s.h.0) s.list.now _ 0 (sym f) in
+    let b = p.1.1 c.in-Some-find.k (omega (arith, l)) in
+    (omega (arith, l), omega (arith, b, p.0.1.1.1))
 
 pub loop_step-r-requires : goal.loop_step-r-requires
 loop_step-r-requires c =
     let s = c.args in
     let p = c.requires in
     let f = rw c.in-Some-find.is at c.find.ensures in
-    let l = find_below s.rows.now (end_of s.rows.now s.h.0) s.list.now s.len 0 (sym f) in
-    rw c.entry-g.ensures ((p.1.1.1 _ (omega (arith, l, p.1.1.0)), p.0.0), (p.0.1, p.1.0))
+    let l = find_below s.rows.now (end_of s.rows.now s.h.0) s.list.now _ 0 (sym f) in
+    rw c.entry-g.ensures ((p.1.1 _ (omega (arith, l)), p.0.0), (p.0.1, p.1.0))
 
 pub returns : goal.returns
 unfolding turn_at
@@ -45,5 +45,5 @@ returns c =
     let s = c.args in
     let e = rw c.in-Some.is at c.pair_of.ensures in
     let f = rw c.in-Some-find.is at c.find.ensures in
-    let l = find_below s.rows.now (end_of s.rows.now s.h.0) s.list.now s.len 0 (sym f) in
-    (rw (← e, ← f, c.loop_step-r.ensures.0, c.entry-g.ensures), (c.loop_step-r.ensures.1, (names_below (pair_of s.rows.now s.h.0) s.halfedges (sym e), omega (arith, l))))
+    let l = find_below s.rows.now (end_of s.rows.now s.h.0) s.list.now _ 0 (sym f) in
+    (rw (← e, ← f, c.loop_step-r.ensures.0, c.entry-g.ensures), (c.loop_step-r.ensures.1, (names_below (pair_of s.rows.now s.h.0) s.ends.halfedges (sym e), omega (arith, l))))

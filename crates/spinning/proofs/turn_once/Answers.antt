@@ -23,20 +23,20 @@ returns-then-eq c =
     (rw (← c.refused.ensures, c.if-refused.false, ← third, ← c.if-eq.ensures), c.requires.1.1.0)
 
 pub next-h-requires : goal.next-h-requires
-next-h-requires c = let a = c.requires.0 in omega (arith, c.requires.1.1.1.0, a.few)
+next-h-requires c = let a = c.requires.0 in omega (arith, c.requires.1.1.1, a.few)
 
 pub carry_prop-requires : goal.carry_prop-requires
 carry_prop-requires c =
     let a = c.requires.0 in
-    let n = next_in _ _ c.requires.1.1.1.0 a.thirds in
+    let n = next_in _ _ c.requires.1.1.1 a.thirds in
     ((a.edge_in, (a.partner_in, rw c.next-h.ensures n)), ((a.thirds, (c.requires.1.0.0, a.few)), a.faces))
 
 pub turn_at-requires : goal.turn_at-requires
 turn_at-requires c =
     let a = c.requires.0 in
     let p = c.requires.1 in
-    let n = next_in _ _ p.1.1.0 a.thirds in
-    ((rw c.next-h.ensures n, (a.thirds, (omega (arith, p.0.0, c.carry_prop.auto.rows), a.few))), ((p.1.0, (p.0.1, a.room)), (p.1.1.1, a.all_in)))
+    let n = next_in _ _ p.1.1 a.thirds in
+    ((rw c.next-h.ensures n, (a.thirds, (omega (arith, p.0.0, c.carry_prop.auto.rows), a.few))), ((p.1.0, (p.0.1, a.room)), a.all_in))
 
 pub returns : goal.returns
 unfolding turn_once

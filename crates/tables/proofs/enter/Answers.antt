@@ -38,7 +38,7 @@ place-requires c =
     let at_end = c.in-Some in
     let at_number2 = c.number-v in
     let at_entry_at = c.entry_at-x in
-    (omega (arith, at_number2.ensures, names_below (end_of at_args.rows.now at_args.c.0) at_args.vertices (sym at_end_of.ensures ∙ ap vertex_named at_end.is), at_see.auto.work, at_pre.1.1), rw c.lesser.ensures (lesser_bound at_entry_at.result at_number.result entry_limit (omega (arith, at_entry_at.ensures)) (omega (arith, at_number.ensures, at_pre.0.1))))
+    record { inside = omega (arith, at_number2.ensures, names_below (end_of at_args.rows.now at_args.c.0) at_args.vertices (sym at_end_of.ensures ∙ ap vertex_named at_end.is), at_see.auto.work, at_pre.1.1); small = rw c.lesser.ensures (lesser_bound at_entry_at.result at_number.result entry_limit (omega (arith, at_entry_at.ensures)) (omega (arith, at_number.ensures, at_pre.0.1))) }
 
 pub shape_of-work : goal.shape_of-work
 shape_of-work c = c.place.auto.work ∙ c.see.auto.work
