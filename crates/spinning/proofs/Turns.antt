@@ -1,5 +1,6 @@
 -- A turn of the loop about the start, and its ways out: what is left of the loop is the whole of it.
-use mathlib.Core.Path.{◌≡◌, refl, ap, ◌∙◌}
+use mathlib.Core.Path.{◌≡◌, refl, sym, ap, ◌∙◌}
+use mathlib.Core.Bool.{true}
 use mathlib.Core.List.{List}
 use lib.IntN.{ℤ}
 use lib.ListN.{length, get_or, take}
@@ -14,8 +15,8 @@ use Prim.Native.Nat.{ℕ, min, zero, suc, ◌+◌, ◌-◌, ◌*◌, ◌<◌, �
 use native.Mathlib.Nat.{mul-le-mul_right}
 use native.Mathlib.Omega.{arith}
 use Rattle.numbers.specs.Next.{next}
-use Rattle.steps.specs.Steps.{Middle, with_rows}
-use Rattle.spinning.specs.Spin.{out, on, formed, formed_at, Fixed, fixed, Around, turn_at, turn_once, tired, spun, inner, spin}
+use Rattle.steps.specs.Steps.{Middle, refused, with_rows}
+use Rattle.spinning.specs.Spin.{Turned, out, on, formed, net_after, formed_at, Fixed, fixed, Around, turn_at, turn_once, tired, Spun, spun, after, inner, spin}
 
 module _ (s : Fixed) where
   pub spin_out : (r left start len c : ℕ) (m : Middle) {k : Middle} → 0 < left → out k ≡ turn_once s len c m → spun k start ≡ spin r s left start len c m
@@ -44,6 +45,34 @@ module _ (s : Fixed) where
   spin_last zero zero start len c m b = refl
   spin_last (suc r) zero start len c m b = refl
   spin_last r (suc left) start len c m b = absurd (omega arith)
+
+  -- where the steps have stopped, the loop leaves everything as it is
+  inner_stopped : (anew : Middle → ℕ → ℕ → Spun) (left start len c : ℕ) (m : Middle) → refused m ≡ true → (inner anew s left start len c m).middle ≡ m
+  unfolding inner tired turn_once
+  inner_stopped anew zero start len c m t = rw t
+  inner_stopped anew (suc left) start len c m t = rw t
+
+  spin_stopped : (r left start len c : ℕ) (m : Middle) → refused m ≡ true → (spin r s left start len c m).middle ≡ m
+  unfolding spin
+  spin_stopped zero left start len c m t = inner_stopped _ left start len c m t
+  spin_stopped (suc r) left start len c m t = inner_stopped _ left start len c m t
+
+  after_stops : (start : ℕ) (t : Turned) (f : Middle → ℕ → Spun) (g : Middle → ℕ → ℕ → Spun) → refused (net_after t) ≡ true →
+      ((k : Middle) (q : ℕ) → refused k ≡ true → (f k q).middle ≡ k) → ((k : Middle) (q j : ℕ) → refused k ≡ true → (g k q j).middle ≡ k) →
+      net_after t ≡ (after start t f g).middle
+  after_stops start (out k) f g t a b = refl
+  after_stops start (on k q) f g t a b = sym (a k q t)
+  after_stops start (formed k q j) f g t a b = sym (b k q j t)
+
+  -- a turn that stops the steps ends the loop
+  pub spin_stops : (r left start len c : ℕ) (m : Middle) {k : Middle} → 0 < left → refused k ≡ true → k ≡ net_after (turn_once s len c m) →
+      k ≡ (spin r s left start len c m).middle
+  unfolding spin inner
+  spin_stops r zero start len c m b t e = absurd (omega arith)
+  spin_stops zero (suc left) start len c m b t e =
+      e ∙ after_stops start (turn_once s len c m) _ _ (rw e at t) (λ k q u. inner_stopped _ left start len q k u) (λ k q j u. refl)
+  spin_stops (suc r) (suc left) start len c m b t e =
+      e ∙ after_stops start (turn_once s len c m) _ _ (rw e at t) (λ k q u. inner_stopped _ left start len q k u) (λ k q j u. spin_stopped r s.halfedges q j q k u)
 
 -- a turn with the first entries of a list reads no others
 module _ (H capacity : ℕ) (list : List ℕ) (len h : ℕ) (m : Middle) where

@@ -1,17 +1,16 @@
 -- The loop of a collapse about the start of its edge. e is the edge that goes and p its partner. A neighbour that is listed already forms a
 -- loop and cuts the list to its place.
-use Rattle.std.specs.Prelude.{Bool, true, cond, List, ◌≡◌, ℕ, zero, suc, ◌*◌, ◌%◌, ◌<◌, ◌≤◌, eqb, ℤ, get_or}
+use Rattle.std.specs.Prelude.{⊤, Bool, true, cond, List, ◌≡◌, ℕ, zero, suc, ◌*◌, ◌%◌, ◌<◌, ◌≤◌, eqb, ℤ, get_or}
 use Rattle.numbers.specs.Numbers.{names, named_or, halfedge_number}
 use Rattle.numbers.specs.Next.{next, most_halfedges}
 use Rattle.rows.specs.Halfedges.{end_of, pair_of}
 use Rattle.rows.specs.Triples.{lent_triples}
 use Rattle.net.specs.Counts.{most_vertices}
-use Rattle.steps.specs.Steps.{Middle, middle, refused, Stopped, ended, with_rows}
+use Rattle.steps.specs.Steps.{Middle, refused, Stopped, ended, with_rows}
 use Rattle.loops.specs.Loops.{loop_at}
 use Rattle.rings.specs.Ring.{AllIn, find}
 use Rattle.carrying.specs.Carried.{carried}
 use Rattle.spinning.specs.declared.Ends.{Ends}
-use Rattle.spinning.specs.declared.Last.{Last}
 use Rattle.spinning.specs.declared.Turn.{Turn}
 use Rattle.spinning.specs.declared.Turn.TheVariants as T
 
@@ -21,17 +20,23 @@ pub data Turned : Type 0 where
   on : Middle → ℕ → Turned
   formed : Middle → ℕ → ℕ → Turned
 
--- what the code's turn says, with the half-edge rows and positions that it leaves
-abbrev pub turned : Turn → List ℤ → List ℕ → Turned
-turned (T.Out r) h p = out (middle h p r)
-turned (T.On r q) h p = on (middle h p r) (halfedge_number q)
-turned (T.Formed r q k) h p = formed (middle h p r) (halfedge_number q) k
+-- what the code's turn says, of the net that it leaves
+abbrev pub turned : Turn → Middle → Turned
+turned T.Out m = out m
+turned (T.On q) m = on m (halfedge_number q)
+turned (T.Formed q k) m = formed m (halfedge_number q) k
+
+-- the net that a turn leaves: all that is said of one that stops
+abbrev pub net_after : Turned → Middle
+net_after (out m) = m
+net_after (on m q) = m
+net_after (formed m q k) = m
 
 -- what the next turn counts on
-abbrev pub Ready : ℕ → ℕ → ℕ → Turn → Type 0
-Ready H capacity len (T.Out r) = r.vertices ≤ capacity
-Ready H capacity len (T.On r q) = (r.vertices ≤ capacity) × (halfedge_number q < H)
-Ready H capacity len (T.Formed r q k) = (r.vertices ≤ capacity) × ((halfedge_number q < H) × (k < len))
+abbrev pub Ready : ℕ → ℕ → Turn → Type 0
+Ready H len T.Out = ⊤
+Ready H len (T.On q) = halfedge_number q < H
+Ready H len (T.Formed q k) = (halfedge_number q < H) × (k < len)
 
 -- what stays the same while it turns
 pub record Fixed : Type 0 where
@@ -80,10 +85,6 @@ pub record Spun : Type 0 where
 
 abbrev pub spun : Middle → ℕ → Spun
 spun m c = record { middle = m; start = c }
-
--- what the code's loop says, with what it leaves
-abbrev pub spun_to : Last → List ℤ → List ℕ → Spun
-spun_to l h p = spun (middle h p l.run) (halfedge_number l.start)
 
 abbrev pub after : ℕ → Turned → (Middle → ℕ → Spun) → (Middle → ℕ → ℕ → Spun) → Spun
 after start (out m) f g = spun m start

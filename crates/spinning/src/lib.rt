@@ -2,16 +2,16 @@
 // Nothing here asks for rows in order.
 #![tactic(auto)]
 
-ghost use Rattle.std.specs.Prelude.{◌≡◌, List, ℕ, ◌<◌, ◌≤◌, ℤ, length};
+ghost use Rattle.std.specs.Prelude.{◌≡◌, ◌<◌, ◌≤◌, length, Err, IfOk, IfErr};
 ghost use Rattle.numbers.specs.Numbers.{halfedge_number};
 ghost use Rattle.rows.specs.Halfedges.{lent_halfedges};
 ghost use Rattle.rows.specs.Triples.{lent_triples};
-ghost use Rattle.steps.specs.Steps.{middle, InUse, VerticesIn};
+ghost use Rattle.steps.specs.Steps.{middle, begin, run_after, InUse, VerticesIn};
 ghost use Rattle.rings.specs.Ring.{AllIn};
-ghost use Rattle.spinning.specs.Spin.{turned, Ready, fixed, Around, turn_at, turn_once, tired, spun_to, spin};
+ghost use Rattle.spinning.specs.Spin.{turned, net_after, Ready, fixed, Around, turn_at, turn_once, spun, spin};
 
 use numbers::Halfedge;
-use steps::Run;
+use steps::Stop;
 
 // What stays the same while the loop turns: the half-edges in use, the vertex capacity, whether props are carried, the edge and its
 // partner.
@@ -27,111 +27,92 @@ pub struct Ends {
 // One turn: the loop is out; it goes on to a half-edge; or a loop was formed, and the list is cut.
 #[derive(Clone, Copy)]
 pub enum Turn {
-    Out(Run),
-    On(Run, Halfedge),
-    Formed(Run, Halfedge, usize),
-}
-
-// How the steps run, and where the last update begins.
-#[derive(Clone, Copy)]
-pub struct Last {
-    pub run: Run,
-    pub start: Halfedge,
+    Out,
+    On(Halfedge),
+    Formed(Halfedge, usize),
 }
 
 // A turn at h: on to its partner, or, where an entry of the list ends where h does, a loop is formed with the first of them.
 fn turn_at(
     rows: &mut [i32],
     positions: &mut [u64],
+    vertices: &mut usize,
     list: &[u32],
     ends: Ends,
-    run: Run,
     h: Halfedge,
-) -> Turn
-    requires { ((halfedge_number h < ends.halfedges) × InUse ends.halfedges rows.old) × (((run.vertices ≤ ends.capacity) × VerticesIn ends.capacity positions.old) × AllIn ends.halfedges list.now) }
-    ensures { (turned result rows.new positions.new ≡ turn_at ends.halfedges ends.capacity list.now (length list.now) (halfedge_number h) (middle rows.old positions.old run)) × Ready ends.halfedges ends.capacity (length list.now) result }
+) -> Result<Turn, Stop>
+    requires { ((halfedge_number h < ends.halfedges) × InUse ends.halfedges rows.old) × (((vertices.old ≤ ends.capacity) × VerticesIn ends.capacity positions.old) × AllIn ends.halfedges list.now) }
+    ensures goes { IfOk result (λ t. (turned t (begin rows.new positions.new vertices.new) ≡ turn_at ends.halfedges ends.capacity list.now (length list.now) (halfedge_number h) (begin rows.old positions.old vertices.old)) × Ready ends.halfedges (length list.now) t) }
+    ensures stops { IfErr result (λ stop. middle rows.new positions.new (run_after vertices.new (Err stop)) ≡ net_after (turn_at ends.halfedges ends.capacity list.now (length list.now) (halfedge_number h) (begin rows.old positions.old vertices.old))) }
+    ensures within { vertices.new ≤ ends.capacity }
 {
     let halfedges = ends.halfedges;
     let Some(q) = rows::halfedges::pair_of(rows, h, halfedges) else {
-        return Turn::Out(run);
+        return Ok(Turn::Out);
     };
     let Some(k) = rings::find(rows, list, halfedges, h) else {
-        return Turn::On(run, q);
+        return Ok(Turn::On(q));
     };
     let g = rings::entry(list, k);
-    let r = loops::loop_step(rows, positions, halfedges, ends.capacity, run, g, h);
-    Turn::Formed(r, q, k)
+    loops::loop_step(rows, positions, vertices, halfedges, ends.capacity, g, h)?;
+    Ok(Turn::Formed(q, k))
 }
 
 // One turn of the loop about the start.
 fn turn_once(
     rows: &mut [i32],
     positions: &mut [u64],
+    vertices: &mut usize,
     references: &[i32],
     list: &[u32],
     ends: Ends,
-    run: Run,
     at: Halfedge,
-) -> Turn
-    requires { Around ends references.now list.now × (((ends.halfedges ≤ lent_halfedges rows.old) × (ends.capacity ≤ lent_triples positions.old)) × ((run.vertices ≤ ends.capacity) × (halfedge_number at < ends.halfedges))) }
-    ensures { (turned result rows.new positions.new ≡ turn_once (fixed ends references.now list.now) (length list.now) (halfedge_number at) (middle rows.old positions.old run)) × Ready ends.halfedges ends.capacity (length list.now) result }
+) -> Result<Turn, Stop>
+    requires { Around ends references.now list.now × (((ends.halfedges ≤ lent_halfedges rows.old) × (ends.capacity ≤ lent_triples positions.old)) × ((vertices.old ≤ ends.capacity) × (halfedge_number at < ends.halfedges))) }
+    ensures goes { IfOk result (λ t. (turned t (begin rows.new positions.new vertices.new) ≡ turn_once (fixed ends references.now list.now) (length list.now) (halfedge_number at) (begin rows.old positions.old vertices.old)) × Ready ends.halfedges (length list.now) t) }
+    ensures stops { IfErr result (λ stop. middle rows.new positions.new (run_after vertices.new (Err stop)) ≡ net_after (turn_once (fixed ends references.now list.now) (length list.now) (halfedge_number at) (begin rows.old positions.old vertices.old))) }
+    ensures within { vertices.new ≤ ends.capacity }
 {
-    if steps::refused(run) {
-        return Turn::Out(run);
-    }
     let e = ends.edge;
     if at == e.next().next() {
-        return Turn::Out(run);
+        return Ok(Turn::Out);
     }
     let p = ends.partner;
     let h = at.next();
     carrying::carry_prop(rows, references, ends.halfedges, ends.props, e, p, h);
-    turn_at(rows, positions, list, ends, run, h)
+    turn_at(rows, positions, vertices, list, ends, h)
 }
 
-// No move is left: the steps stop, but where the loop stands at its end.
-fn tired(run: Run, to: Halfedge, at: Halfedge) -> Run
-    ensures { ((h : List ℤ) (p : List ℕ) → middle h p result ≡ tired (halfedge_number to) (halfedge_number at) (middle h p run)) × (result.vertices ≡ run.vertices) }
-{
-    if steps::refused(run) {
-        return run;
-    }
-    if at == to {
-        return run;
-    }
-    steps::stopped(run)
-}
-
-// The loop about the start, from `first` on, over all of the list: moves are counted anew after each loop formed.
+// The loop about the start, from `first` on, over all of the list: where the last update begins. Moves are counted anew after each loop
+// formed; the steps stop where none is left but the loop stands short of its end.
 pub fn spin(
     rows: &mut [i32],
     positions: &mut [u64],
+    vertices: &mut usize,
     references: &[i32],
     list: &[u32],
     ends: Ends,
-    begun: Run,
     first: Halfedge,
-) -> Last
-    requires { Around ends references.now list.now × (((ends.halfedges ≤ lent_halfedges rows.old) × (ends.capacity ≤ lent_triples positions.old)) × ((begun.vertices ≤ ends.capacity) × (halfedge_number first < ends.halfedges))) }
-    ensures { (spun_to result rows.new positions.new ≡ spin (length list.now) (fixed ends references.now list.now) ends.halfedges (halfedge_number first) (length list.now) (halfedge_number first) (middle rows.old positions.old begun)) × ((result.run.vertices ≤ ends.capacity) × (halfedge_number result.start < ends.halfedges)) }
+) -> Result<Halfedge, Stop>
+    requires { Around ends references.now list.now × (((ends.halfedges ≤ lent_halfedges rows.old) × (ends.capacity ≤ lent_triples positions.old)) × ((vertices.old ≤ ends.capacity) × (halfedge_number first < ends.halfedges))) }
+    ensures goes { IfOk result (λ start. (spun (begin rows.new positions.new vertices.new) (halfedge_number start) ≡ spin (length list.now) (fixed ends references.now list.now) ends.halfedges (halfedge_number first) (length list.now) (halfedge_number first) (begin rows.old positions.old vertices.old)) × (halfedge_number start < ends.halfedges)) }
+    ensures stops { IfErr result (λ stop. middle rows.new positions.new (run_after vertices.new (Err stop)) ≡ (spin (length list.now) (fixed ends references.now list.now) ends.halfedges (halfedge_number first) (length list.now) (halfedge_number first) (begin rows.old positions.old vertices.old)).middle) }
+    ensures within { vertices.new ≤ ends.capacity }
 {
-    let mut run = begun;
     let mut at = first;
     let mut start = first;
     let mut list = list;
     let mut left = ends.halfedges;
     while 0 < left {
-        match turn_once(rows, positions, references, list, ends, run, at) {
-            Turn::Out(r) => {
-                return Last { run: r, start };
+        match turn_once(rows, positions, vertices, references, list, ends, at)? {
+            Turn::Out => {
+                return Ok(start);
             }
-            Turn::On(r, q) => {
-                run = r;
+            Turn::On(q) => {
                 at = q;
                 left -= 1;
             }
-            Turn::Formed(r, q, k) => {
-                run = r;
+            Turn::Formed(q, k) => {
                 at = q;
                 start = q;
                 list = &list[..k];
@@ -139,9 +120,9 @@ pub fn spin(
             }
         }
     }
-    let e = ends.edge;
-    Last {
-        run: tired(run, e.next().next(), at),
-        start,
+    if at == ends.edge.next().next() {
+        Ok(start)
+    } else {
+        Err(Stop::Stopped)
     }
 }

@@ -6,21 +6,17 @@ use Rattle.numbers.proofs.NextLaws.{next_in}
 use Rattle.spinning.specs.Spin.{turn_once}
 use Rattle.spinning.proofs.turn_once.Goals as goal
 
-pub returns-then-refused : goal.returns-then-refused
-unfolding turn_once
-returns-then-refused c = (rw (← c.refused.ensures, c.if-refused.true), c.requires.1.1.0)
-
 pub next-requires : goal.next-requires
 next-requires c = let a = c.requires.0 in omega (arith, a.edge_in, a.few)
 
 pub next-requires-2 : goal.next-requires-2
 next-requires-2 c = let a = c.requires.0 in let n = next_in _ _ a.edge_in a.thirds in omega (arith, n, c.next.ensures, a.few)
 
-pub returns-then-eq : goal.returns-then-eq
+pub returns-then-eq-clause-goes : goal.returns-then-eq-clause-goes
 unfolding turn_once
-returns-then-eq c =
+returns-then-eq-clause-goes c =
     let third = c.next-2.ensures ∙ ap next c.next.ensures in
-    (rw (← c.refused.ensures, c.if-refused.false, ← third, ← c.if-eq.ensures), c.requires.1.1.0)
+    (rw (← third, ← c.if-eq.ensures), tt)
 
 pub next-h-requires : goal.next-h-requires
 next-h-requires c = let a = c.requires.0 in omega (arith, c.requires.1.1.1, a.few)
@@ -38,8 +34,14 @@ turn_at-requires c =
     let n = next_in _ _ p.1.1 a.thirds in
     ((rw c.next-h.ensures n, (a.thirds, (omega (arith, p.0.0, c.carry_prop.auto.rows), a.few))), ((p.1.0, (p.0.1, a.room)), a.all_in))
 
-pub returns : goal.returns
+pub returns-clause-goes : goal.returns-clause-goes
 unfolding turn_once
-returns c =
+returns-clause-goes c =
     let third = c.next-2.ensures ∙ ap next c.next.ensures in
-    (rw (← c.refused.ensures, c.if-refused.false, ← third, ← c.if-eq.ensures, ← c.next-h.ensures, ← c.carry_prop.ensures) c.turn_at.ensures.0, c.turn_at.ensures.1)
+    rw (← third, ← c.if-eq.ensures, ← c.next-h.ensures, ← c.carry_prop.ensures) c.turn_at.ensures.goes
+
+pub returns-clause-stops : goal.returns-clause-stops
+unfolding turn_once
+returns-clause-stops c =
+    let third = c.next-2.ensures ∙ ap next c.next.ensures in
+    rw (← third, ← c.if-eq.ensures, ← c.next-h.ensures, ← c.carry_prop.ensures) c.turn_at.ensures.stops
