@@ -1,1 +1,3 @@
 pub mod Kept
+pub mod Stops
+pub mod Measured

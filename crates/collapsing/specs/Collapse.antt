@@ -1,14 +1,13 @@
 -- The work of collapse_edge, short arm, on a net in the middle of an operation. e is the edge, p its partner and v the vertex where e
 -- ends, which is kept. It asks for no rows in order: an edge may be left alone, for a reason, and the steps may be refused.
-use Rattle.std.specs.Prelude.{Bool, cond, List, ℕ, ◌≤◌, ℤ, length, Result, Ok, Err}
+use Rattle.std.specs.Prelude.{⊤, Bool, cond, List, ℕ, ℤ, length, Result, Ok, Err}
 use Rattle.answers.specs.Answers.{Said}
 use Rattle.refused.specs.declared.Refusal.{Refusal}
 use Rattle.refused.specs.declared.Refusal.TheVariants as R
 use Rattle.refused.specs.Refused.{refused as said}
 use Rattle.numbers.specs.Numbers.{named_or}
 use Rattle.numbers.specs.Next.{next}
-use Rattle.steps.specs.Run.{Run}
-use Rattle.steps.specs.Steps.{Middle, middle, refused, Stopped, ended}
+use Rattle.steps.specs.Steps.{Middle, middle, begin, running, refused, NoRoom, Stopped, ended}
 use Rattle.walks.specs.Walk.{onward, update}
 use Rattle.triangles.specs.Triangles.{collapse}
 use Rattle.folds.specs.Folds.{lose, fold}
@@ -57,19 +56,14 @@ trial o m = record { how_tried = o; middle = m }
 abbrev pub ran : Middle → Trial
 ran m = cond (refused m) (trial refusal m) (trial went m)
 
--- what the code's try says, with the half-edge rows and positions that it leaves; an edge left alone leaves the run as it was. Only a long
--- edge is left with values
-abbrev pub tried : Result Run Refusal → Run → List ℤ → List ℕ → Trial
-tried (Ok r) run h p = ran (middle h p r)
-tried (Err R.Dead) run h p = trial left_dead (middle h p run)
-tried (Err R.OpenFan) run h p = trial left_open (middle h p run)
-tried (Err R.Stopped) run h p = trial refusal (ended Stopped (middle h p run))
-tried (Err r) run h p = trial (left_long (said r)) (middle h p run)
-
--- the vertices in use are within a capacity
-abbrev pub TriedWithin : ℕ → Run → Result Run Refusal → Type 0
-TriedWithin capacity run (Ok r) = r.vertices ≤ capacity
-TriedWithin capacity run (Err r) = run.vertices ≤ capacity
+-- what the code's try says, with the half-edge rows, positions and vertices in use that it leaves. Only a long edge is left with values
+abbrev pub tried : Result ⊤ Refusal → List ℤ → List ℕ → ℕ → Trial
+tried (Ok x) h p n = trial went (begin h p n)
+tried (Err R.Dead) h p n = trial left_dead (begin h p n)
+tried (Err R.OpenFan) h p n = trial left_open (begin h p n)
+tried (Err R.NoRoom) h p n = trial refusal (middle h p (running n NoRoom))
+tried (Err R.Stopped) h p n = trial refusal (middle h p (running n Stopped))
+tried (Err r) h p n = trial (left_long (said r)) (begin h p n)
 
 abbrev pub by_judgement : ℕ → ℕ → Bool → List ℤ → ℕ → Middle → Judgement → Trial
 by_judgement H capacity props references e m (found_short p v) = ran (short_at H capacity props references v e p m)

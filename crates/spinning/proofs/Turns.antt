@@ -52,7 +52,7 @@ module _ (s : Fixed) where
   inner_stopped anew zero start len c m t = rw t
   inner_stopped anew (suc left) start len c m t = rw t
 
-  spin_stopped : (r left start len c : ℕ) (m : Middle) → refused m ≡ true → (spin r s left start len c m).middle ≡ m
+  pub spin_stopped : (r left start len c : ℕ) (m : Middle) → refused m ≡ true → (spin r s left start len c m).middle ≡ m
   unfolding spin
   spin_stopped zero left start len c m t = inner_stopped _ left start len c m t
   spin_stopped (suc r) left start len c m t = inner_stopped _ left start len c m t

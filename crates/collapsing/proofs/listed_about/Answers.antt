@@ -23,8 +23,16 @@ slice_bounds-about-end-in-Some c = let w = rw c.in-Some.is at c.list_ring.ensure
 pub about-requires : goal.about-requires
 about-requires c = let a = c.requires.0 in let p = c.requires.1 in let w = rw c.in-Some.is at c.list_ring.ensures in (record { edge_in = a.edge_in; partner_in = a.partner_in; thirds = a.thirds; few = a.few; room = a.room; faces = a.faces; all_in = w.1.0.1 }, (p.0, (p.1.0, (p.1.1.0.0, p.1.1.1.0))))
 
-pub returns-in-Some : goal.returns-in-Some
-returns-in-Some c = let w = rw c.in-Some.is at c.list_ring.ensures in let e = rw (c.next-to.ensures, c.next.ensures) at w.0 in (rw (← e) c.about.ensures.0, (c.about.ensures.1, w.1.1))
+pub returns-in-Some-clause-step : goal.returns-in-Some-clause-step
+returns-in-Some-clause-step c =
+    let w = rw c.in-Some.is at c.list_ring.ensures in let e = rw (c.next-to.ensures, c.next.ensures) at w.0 in rw (← e) c.about.ensures.step
 
-pub returns-in-None : goal.returns-in-None
-returns-in-None c = let w = rw c.in-None.is at c.list_ring.ensures in let e = rw (c.next-to.ensures, c.next.ensures) at w.0 in (rw (← e, c.stopped.ensures), (rw c.stopped.ensures c.requires.1.1.0, w.1.1))
+pub returns-in-Some-clause-beyond : goal.returns-in-Some-clause-beyond
+returns-in-Some-clause-beyond c = let w = rw c.in-Some.is at c.list_ring.ensures in w.1.1
+
+pub returns-in-None-clause-step : goal.returns-in-None-clause-step
+returns-in-None-clause-step c =
+    let w = rw c.in-None.is at c.list_ring.ensures in let e = rw (c.next-to.ensures, c.next.ensures) at w.0 in rw (← e)
+
+pub returns-in-None-clause-beyond : goal.returns-in-None-clause-beyond
+returns-in-None-clause-beyond c = let w = rw c.in-None.is at c.list_ring.ensures in w.1.1
