@@ -1,23 +1,17 @@
 -- What the steps of collapse_edge leave alone: the free rows behind those that they leave in use. So an end from the spare puts
 -- everything back.
-use mathlib.Core.Path.{◌≡◌, refl}
+use mathlib.Core.Path.{◌≡◌}
 use mathlib.Core.Bool.{Bool}
 use mathlib.Core.List.{List}
 use Prim.Native.Nat.{ℕ, ◌%◌, ◌<◌, ◌≤◌}
 use lib.IntN.{ℤ}
-use Rattle.std.specs.Prelude.{Result, Ok, Err}
-use Rattle.std.specs.Result.{result_unwrap_or}
-use Rattle.laws.proofs.Tests.{by_test}
-use Rattle.refused.specs.declared.Refusal.{Refusal}
-use Rattle.refused.specs.declared.Refusal.TheVariants as R
-use Rattle.steps.specs.Run.{Run}
 use Rattle.rows.specs.Halfedges.{lent_halfedges}
 use Rattle.rows.specs.Triples.{lent_triples}
-use Rattle.steps.specs.Steps.{Middle, middle, refused, Stopped, begin, ended, ended_run}
+use Rattle.steps.specs.Steps.{Middle, Stopped, begin, ended}
 use Rattle.steps.proofs.Frame.{frame_trans, frame_ended}
 use Rattle.spinning.proofs.Kept.{Steps}
 use Rattle.judging.specs.declared.Tolerance.{Tolerance}
-use Rattle.collapsing.specs.Collapse.{HowTried, went, left_dead, left_open, left_long, refusal, tried, collapse_at}
+use Rattle.collapsing.specs.Collapse.{HowTried, went, left_dead, left_open, left_long, refusal, collapse_at}
 use Rattle.collapsing.proofs.Kept.{try_steps}
 use Rattle.collapse.specs.CollapseEdge.{stops, to_settle}
 
@@ -31,20 +25,6 @@ module _ {H capacity : ℕ} where
   stops_steps left_dead m k s = stopped_too s
   stops_steps left_open m k s = stopped_too s
   stops_steps (left_long l) m k s = stopped_too s
-
--- how the steps run after a try: an edge that was left alone stops them
-pub after_try : (o : Result Run Refusal) (run : Run) (h : List ℤ) (p : List ℕ) → middle h p (result_unwrap_or o (ended_run Stopped run)) ≡ to_settle (tried o run h p)
-after_try (Ok r) run h p = by_test (refused (middle h p r)) (λ t. rw t) (λ t. rw t)
-after_try (Err R.Shape) run h p = refl
-after_try (Err R.ShortBuffer) run h p = refl
-after_try (Err (R.Unsound g)) run h p = refl
-after_try (Err R.Number) run h p = refl
-after_try (Err R.Dead) run h p = refl
-after_try (Err R.NoRoom) run h p = refl
-after_try (Err R.Stopped) run h p = refl
-after_try (Err (R.Long length limit)) run h p = refl
-after_try (Err R.OpenFan) run h p = refl
-after_try (Err R.NoOwners) run h p = refl
 
 -- what the steps leave, known by an equation
 pub settle_steps : (H N capacity : ℕ) (props : Bool) (references : List ℤ) (t : Tolerance) (e : ℕ) (rows : List ℤ) (positions : List ℕ) {k : Middle} →

@@ -2,13 +2,13 @@
 // steps of collapsing work in place, and a refusal puts everything back.
 #![tactic(auto)]
 
-ghost use Rattle.std.specs.Prelude.{◌≡◌, true, List, ℕ, ◌*◌, ◌<◌, ◌≤◌, ℤ, length, drop};
+ghost use Rattle.std.specs.Prelude.{◌≡◌, true, ◌*◌, ◌<◌, ◌≤◌, length, drop};
 ghost use Rattle.numbers.specs.Numbers.{halfedge_number, names};
 ghost use Rattle.rows.specs.Halfedges.{lent_halfedges};
 ghost use Rattle.rows.specs.Triples.{lent_triples};
 ghost use Rattle.net.specs.Counts.{vertex_capacity_over};
 ghost use Rattle.net.specs.Net.{net};
-ghost use Rattle.steps.specs.Steps.{middle, begin, InUse, VerticesIn};
+ghost use Rattle.steps.specs.Steps.{middle, begin, run_after, InUse, VerticesIn};
 ghost use Rattle.judging.specs.Judge.{judge};
 ghost use Rattle.collapsing.specs.Collapse.{collapse_at};
 ghost use Rattle.collapse.specs.CollapseEdge.{collapse_edge_said, left, bar, barred, to_settle, collapse_settled, collapse_edge_named, tolerance, collapse_edge};
@@ -17,7 +17,7 @@ use judging::Tolerance;
 use net::Counts;
 use numbers::Halfedge;
 use refused::Refusal;
-use steps::Run;
+use steps::Stop;
 
 // An edge that is dead, or long, is barred.
 fn bar(
@@ -37,27 +37,31 @@ fn bar(
     }
 }
 
-// The steps of collapse_edge, from `vertices` in use on: an edge that was left alone stops them.
+// The steps of collapse_edge: an edge that was left alone stops them.
 fn try_edge(
     rows: &mut [i32],
     positions: &mut [u64],
+    vertices: &mut usize,
     references: &[i32],
     list: &mut [u32],
     halfedges: usize,
-    vertices: usize,
     capacity: usize,
     props: bool,
     tolerance: Tolerance,
     e: Halfedge,
-) -> Run
-    requires { ((halfedge_number e < halfedges) × InUse halfedges rows.old) × (((vertices ≤ capacity) × VerticesIn capacity positions.old) × ((props ≡ true → halfedges ≤ 3 * lent_triples references.now) × (halfedges ≤ length list.old))) }
-    ensures { (middle rows.new positions.new result ≡ to_settle (collapse_at halfedges capacity props references.now tolerance (halfedge_number e) (begin rows.old positions.old vertices))) × (drop halfedges list.new ≡ drop halfedges list.old) }
+) -> Result<(), Stop>
+    requires { ((halfedge_number e < halfedges) × InUse halfedges rows.old) × (((vertices.old ≤ capacity) × VerticesIn capacity positions.old) × ((props ≡ true → halfedges ≤ 3 * lent_triples references.now) × (halfedges ≤ length list.old))) }
+    ensures step { middle rows.new positions.new (run_after vertices.new result) ≡ to_settle (collapse_at halfedges capacity props references.now tolerance (halfedge_number e) (begin rows.old positions.old vertices.old)) }
+    ensures beyond { drop halfedges list.new ≡ drop halfedges list.old }
 {
-    let run = steps::begun(vertices);
-    let attempt = collapsing::collapse_step(
-        rows, positions, references, list, halfedges, capacity, props, run, e, tolerance,
+    let tried = collapsing::collapse_step(
+        rows, positions, vertices, references, list, halfedges, capacity, props, e, tolerance,
     );
-    attempt.unwrap_or(steps::stopped(run))
+    match tried {
+        Ok(()) => Ok(()),
+        Err(Refusal::NoRoom) => Err(Stop::NoRoom),
+        Err(_) => Err(Stop::Stopped),
+    }
 }
 
 // collapse_edge past the checks: the rows in use go to the spare, the steps work in place, and a refusal puts everything back.
@@ -81,8 +85,9 @@ fn collapse_settled(
 {
     rows::halfedges::copy(rows, spare_halfedges, halfedges);
     rows::triples::copy(positions, spare_positions, vertices);
-    let run = try_edge(
-        rows, positions, references, list, halfedges, vertices, capacity, props, tolerance, e,
+    let mut used = vertices;
+    let went = try_edge(
+        rows, positions, &mut used, references, list, halfedges, capacity, props, tolerance, e,
     );
     steps::settle(
         rows,
@@ -91,10 +96,12 @@ fn collapse_settled(
         spare_positions,
         halfedges,
         vertices,
-        run,
+        used,
+        went,
     );
     stretches::fill(list, 0, 0, room);
-    steps::answer(run)
+    went?;
+    Ok(used)
 }
 
 // Collapses the half-edge that a caller's number names.
