@@ -7,7 +7,7 @@ ghost use Rattle.numbers.specs.Numbers.{halfedge_number};
 ghost use Rattle.rows.specs.Triples.{lent_triples};
 ghost use Rattle.net.specs.Counts.{vertex_capacity_over};
 ghost use Rattle.net.specs.Net.{net};
-ghost use Rattle.steps.specs.Steps.{begin, InUse};
+ghost use Rattle.steps.specs.Steps.{begin, run_after, InUse};
 ghost use Rattle.collapsing.specs.Collapse.{tried, collapse_at};
 ghost use Rattle.collapse.specs.CollapseEdge.{tolerance};
 ghost use Rattle.innersteps.specs.Told.{counts_of, run_told, refused_by, collapse_step, update_step, fold_step, loop_step, trial_left, try_step};
@@ -15,7 +15,7 @@ ghost use Rattle.innersteps.specs.Told.{counts_of, run_told, refused_by, collaps
 use judging::Tolerance;
 use numbers::Halfedge;
 use refused::Refusal;
-use steps::{How, Run};
+use steps::Stop;
 
 #[repr(C)]
 #[derive(Clone, Copy)]
@@ -49,18 +49,15 @@ fn counts_of(used: Used) -> net::Counts
     }
 }
 
-fn told(run: Run) -> StepAnswer
-    ensures { result ≡ run_told run }
+fn told(vertices: usize, went: Result<(), Stop>) -> StepAnswer
+    ensures { result ≡ run_told (run_after vertices went) }
 {
-    let number = match run.how {
-        How::Going => 0,
-        How::NoRoom => 6,
-        How::Stopped => 7,
+    let number = match went {
+        Ok(()) => 0,
+        Err(Stop::NoRoom) => 6,
+        Err(Stop::Stopped) => 7,
     };
-    StepAnswer {
-        number,
-        vertices: run.vertices,
-    }
+    StepAnswer { number, vertices }
 }
 
 fn refused(number: u32) -> StepAnswer
@@ -97,7 +94,8 @@ pub extern "C" fn innersteps_collapse(
     let Some(e) = numbers::halfedge_read(halfedge, used.halfedges) else {
         return refused(4);
     };
-    told(triangles::collapse_step(halfedges, used.halfedges, steps::begun(used.vertices), e))
+    let went = triangles::collapse_step(halfedges, used.halfedges, e);
+    told(used.vertices, went)
 }
 
 #[unsafe(no_mangle)]
@@ -133,14 +131,8 @@ pub extern "C" fn innersteps_update(
     let Some(b) = numbers::halfedge_read(end, used.halfedges) else {
         return refused(4);
     };
-    told(walks::update_step(
-        halfedges,
-        used.halfedges,
-        steps::begun(used.vertices),
-        v,
-        a,
-        b,
-    ))
+    let went = walks::update_step(halfedges, used.halfedges, v, a, b);
+    told(used.vertices, went)
 }
 
 #[unsafe(no_mangle)]
@@ -168,13 +160,8 @@ pub extern "C" fn innersteps_fold(
     let Some(e) = numbers::halfedge_read(halfedge, used.halfedges) else {
         return refused(4);
     };
-    told(folds::fold_step(
-        halfedges,
-        positions,
-        used.halfedges,
-        steps::begun(used.vertices),
-        e,
-    ))
+    let went = folds::fold_step(halfedges, positions, used.halfedges, used.vertices, e);
+    told(used.vertices, went)
 }
 
 #[unsafe(no_mangle)]
@@ -207,34 +194,32 @@ pub extern "C" fn innersteps_loop(
         return refused(4);
     };
     let capacity = net::vertex_capacity(positions);
-    told(loops::loop_step(
+    let mut vertices = used.vertices;
+    let went = loops::loop_step(
         halfedges,
         positions,
+        &mut vertices,
         used.halfedges,
         capacity,
-        steps::begun(used.vertices),
         a,
         b,
-    ))
+    );
+    told(vertices, went)
 }
 
-// How a try that began with `run` came out: by how the steps ended, or 5, 9 or 8 where the edge was left alone.
-fn tried_told(attempt: Result<Run, Refusal>, run: Run) -> StepAnswer
-    ensures { (h : List ℤ) (p : List ℕ) → (result, (h, p)) ≡ trial_left (tried attempt run h p) }
+// How a try came out: by how the steps ended, or 5, 9 or 8 where the edge was left alone.
+fn tried_told(vertices: usize, attempt: Result<(), Refusal>) -> StepAnswer
+    ensures { (h : List ℤ) (p : List ℕ) → (result, (h, p)) ≡ trial_left (tried attempt h p vertices) }
 {
     let number = match attempt {
-        Ok(ended) => {
-            return told(ended);
-        }
+        Ok(()) => 0,
         Err(Refusal::Dead) => 5,
-        Err(Refusal::OpenFan) => 9,
+        Err(Refusal::NoRoom) => 6,
         Err(Refusal::Stopped) => 7,
+        Err(Refusal::OpenFan) => 9,
         Err(_) => 8,
     };
-    StepAnswer {
-        number,
-        vertices: run.vertices,
-    }
+    StepAnswer { number, vertices }
 }
 
 // Tries to collapse the edge e.
@@ -252,12 +237,12 @@ fn try_at(
     requires { ((halfedge_number e < halfedges) × InUse halfedges rows.old) × ((vertices ≤ vertex_capacity_over positions.old) × ((props ≡ true → halfedges ≤ 3 * lent_triples references.now) × (halfedges ≤ length list.old))) }
     ensures { ((result, (rows.new, positions.new)) ≡ trial_left (collapse_at halfedges (vertex_capacity_over positions.old) props references.now tolerance (halfedge_number e) (begin rows.old positions.old vertices))) × (drop halfedges list.new ≡ drop halfedges list.old) }
 {
-    let run = steps::begun(vertices);
     let capacity = net::vertex_capacity(positions);
+    let mut used = vertices;
     let attempt = collapsing::collapse_step(
-        rows, positions, references, list, halfedges, capacity, props, run, e, tolerance,
+        rows, positions, &mut used, references, list, halfedges, capacity, props, e, tolerance,
     );
-    tried_told(attempt, run)
+    tried_told(used, attempt)
 }
 
 // The work of collapse_edge past its checks. The list holds the half-edges in use, and keeps what is behind them.

@@ -16,8 +16,8 @@ unfolding collapse_step
 returns-in_default c =
     rw (c.refused-in_default.ensures, ← (rw c.counts_of.ensures at c.shaped.ensures), c.if-not-shaped.false, ← (rw (to_z-of_z c.ranges.halfedge, c.in_default.is) at c.halfedge_read.ensures))
 
-pub collapse_step-requires : goal.collapse_step-requires
-collapse_step-requires c =
+pub collapse_step-went-requires : goal.collapse_step-went-requires
+collapse_step-went-requires c =
     let sh = shaped_yes _ _ (sym (rw c.counts_of.ensures at c.shaped.ensures) ∙ c.if-not-shaped.false) in
     let w = within _ _ sh in
     (names_below c.args.halfedge c.args.used.halfedges (sym (rw (to_z-of_z c.ranges.halfedge, c.in-Some.is) at c.halfedge_read.ensures)), (w.halfedges_thirds, (w.halfedges_lent, w.halfedges_most)))
@@ -25,4 +25,4 @@ collapse_step-requires c =
 pub returns : goal.returns
 unfolding collapse_step
 returns c =
-    rw (c.told.ensures, ← (rw c.counts_of.ensures at c.shaped.ensures), c.if-not-shaped.false, ← (rw (to_z-of_z c.ranges.halfedge, c.in-Some.is) at c.halfedge_read.ensures), ← c.begun.ensures) (ap rows_left (c.collapse_step.ensures.0 c.args.positions.now))
+    rw (c.told.ensures, ← (rw c.counts_of.ensures at c.shaped.ensures), c.if-not-shaped.false, ← (rw (to_z-of_z c.ranges.halfedge, c.in-Some.is) at c.halfedge_read.ensures)) (ap rows_left (c.collapse_step-went.ensures c.args.positions.now c.args.used.vertices))

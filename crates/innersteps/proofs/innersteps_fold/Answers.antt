@@ -16,13 +16,13 @@ unfolding fold_step
 returns-in_default c =
     rw (c.refused-in_default.ensures, ← (rw c.counts_of.ensures at c.shaped.ensures), c.if-not-shaped.false, ← (rw (to_z-of_z c.ranges.halfedge, c.in_default.is) at c.halfedge_read.ensures))
 
-pub fold_step-requires : goal.fold_step-requires
-fold_step-requires c =
+pub fold_step-went-requires : goal.fold_step-went-requires
+fold_step-went-requires c =
     let sh = shaped_yes _ _ (sym (rw c.counts_of.ensures at c.shaped.ensures) ∙ c.if-not-shaped.false) in
     let w = within _ _ sh in
-    rw c.begun.ensures (names_below c.args.halfedge c.args.used.halfedges (sym (rw (to_z-of_z c.ranges.halfedge, c.in-Some.is) at c.halfedge_read.ensures)), ((w.halfedges_thirds, (w.halfedges_lent, w.halfedges_most)), (w.vertices_lent, w.vertices_most)))
+    (names_below c.args.halfedge c.args.used.halfedges (sym (rw (to_z-of_z c.ranges.halfedge, c.in-Some.is) at c.halfedge_read.ensures)), ((w.halfedges_thirds, (w.halfedges_lent, w.halfedges_most)), (w.vertices_lent, w.vertices_most)))
 
 pub returns : goal.returns
 unfolding fold_step
 returns c =
-    rw (c.told.ensures, ← (rw c.counts_of.ensures at c.shaped.ensures), c.if-not-shaped.false, ← (rw (to_z-of_z c.ranges.halfedge, c.in-Some.is) at c.halfedge_read.ensures), ← c.begun.ensures) (ap both_left c.fold_step.ensures.0)
+    rw (c.told.ensures, ← (rw c.counts_of.ensures at c.shaped.ensures), c.if-not-shaped.false, ← (rw (to_z-of_z c.ranges.halfedge, c.in-Some.is) at c.halfedge_read.ensures)) (ap both_left c.fold_step-went.ensures)

@@ -23,16 +23,16 @@ unfolding loop_step
 returns-in_default-halfedge_read c =
     rw (c.refused-in_default-halfedge_read.ensures, ← (rw c.counts_of.ensures at c.shaped.ensures), c.if-not-shaped.false, ← (rw (to_z-of_z c.ranges.first, c.in-Some.is) at c.halfedge_read.ensures), ← (rw (to_z-of_z c.ranges.second, c.in_default-halfedge_read.is) at c.halfedge_read-2.ensures))
 
-pub loop_step-requires : goal.loop_step-requires
+pub loop_step-went-requires : goal.loop_step-went-requires
 unfolding vertex_capacity_over
-loop_step-requires c =
+loop_step-went-requires c =
     let sh = shaped_yes _ _ (sym (rw c.counts_of.ensures at c.shaped.ensures) ∙ c.if-not-shaped.false) in
     let w = within _ _ sh in
     let a = names_below c.args.first c.args.used.halfedges (sym (rw (to_z-of_z c.ranges.first, c.in-Some.is) at c.halfedge_read.ensures)) in
     let b = names_below c.args.second c.args.used.halfedges (sym (rw (to_z-of_z c.ranges.second, c.in-Some-halfedge_read.is) at c.halfedge_read-2.ensures)) in
-    rw (c.vertex_capacity-capacity.ensures, c.begun.ensures) ((a, b), ((w.halfedges_thirds, (w.halfedges_lent, w.halfedges_most)), (sh.vertices_fit, (omega arith, omega arith))))
+    rw (c.vertex_capacity-capacity.ensures) ((a, b), ((w.halfedges_thirds, (w.halfedges_lent, w.halfedges_most)), (sh.vertices_fit, (omega arith, omega arith))))
 
 pub returns : goal.returns
 unfolding loop_step
 returns c =
-    rw (c.told.ensures, ← (rw c.counts_of.ensures at c.shaped.ensures), c.if-not-shaped.false, ← (rw (to_z-of_z c.ranges.first, c.in-Some.is) at c.halfedge_read.ensures), ← (rw (to_z-of_z c.ranges.second, c.in-Some-halfedge_read.is) at c.halfedge_read-2.ensures), ← c.vertex_capacity-capacity.ensures, ← c.begun.ensures) (ap both_left c.loop_step.ensures.0)
+    rw (c.told.ensures, ← (rw c.counts_of.ensures at c.shaped.ensures), c.if-not-shaped.false, ← (rw (to_z-of_z c.ranges.first, c.in-Some.is) at c.halfedge_read.ensures), ← (rw (to_z-of_z c.ranges.second, c.in-Some-halfedge_read.is) at c.halfedge_read-2.ensures), ← c.vertex_capacity-capacity.ensures) (ap both_left c.loop_step-went.ensures.step)

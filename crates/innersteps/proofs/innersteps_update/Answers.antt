@@ -27,8 +27,8 @@ unfolding update_step
 returns-in_default-halfedge_read-2 c =
     rw (c.refused-in_default-halfedge_read-2.ensures, ← (rw c.counts_of.ensures at c.shaped.ensures), c.if-not-shaped.false, ← (rw (to_z-of_z c.ranges.vertex, c.in-Some.is) at c.vertex_read.ensures), ← (rw (to_z-of_z c.ranges.start, c.in-Some-halfedge_read.is) at c.halfedge_read.ensures), ← (rw (to_z-of_z c.ranges.end, c.in_default-halfedge_read-2.is) at c.halfedge_read-2.ensures))
 
-pub update_step-requires : goal.update_step-requires
-update_step-requires c =
+pub update_step-went-requires : goal.update_step-went-requires
+update_step-went-requires c =
     let sh = shaped_yes _ _ (sym (rw c.counts_of.ensures at c.shaped.ensures) ∙ c.if-not-shaped.false) in
     let w = within _ _ sh in
     let v = names_below c.args.vertex c.args.used.vertices (sym (rw (to_z-of_z c.ranges.vertex, c.in-Some.is) at c.vertex_read.ensures)) in
@@ -37,4 +37,4 @@ update_step-requires c =
 pub returns : goal.returns
 unfolding update_step
 returns c =
-    rw (c.told.ensures, ← (rw c.counts_of.ensures at c.shaped.ensures), c.if-not-shaped.false, ← (rw (to_z-of_z c.ranges.vertex, c.in-Some.is) at c.vertex_read.ensures), ← (rw (to_z-of_z c.ranges.start, c.in-Some-halfedge_read.is) at c.halfedge_read.ensures), ← (rw (to_z-of_z c.ranges.end, c.in-Some-halfedge_read-2.is) at c.halfedge_read-2.ensures), ← c.begun.ensures) (ap rows_left (c.update_step.ensures.0 c.args.positions.now))
+    rw (c.told.ensures, ← (rw c.counts_of.ensures at c.shaped.ensures), c.if-not-shaped.false, ← (rw (to_z-of_z c.ranges.vertex, c.in-Some.is) at c.vertex_read.ensures), ← (rw (to_z-of_z c.ranges.start, c.in-Some-halfedge_read.is) at c.halfedge_read.ensures), ← (rw (to_z-of_z c.ranges.end, c.in-Some-halfedge_read-2.is) at c.halfedge_read-2.ensures)) (ap rows_left (c.update_step-went.ensures c.args.positions.now c.args.used.vertices))
