@@ -19,7 +19,7 @@ module _ (l : Limits) (w : Growing) (t : halted w ≡ true) where
   unfolding add
   add_halted a b h e = rw t
 
-  join_halted : (k h : ℕ) → join k h w ≡ w
+  pub join_halted : (k h : ℕ) → join k h w ≡ w
   unfolding join
   join_halted k h = rw t
 
