@@ -27,7 +27,7 @@ use Rattle.settling.specs.Settling.{limits_of}
 use Rattle.rounds.specs.Rounds.{rounds}
 use Rattle.dedupeedges.specs.DedupeEdges.{Left, left, lent_enough}
 use Rattle.dedupeedges.proofs.Told.{same_left}
-use Rattle.settling.specs.declared.Extent.{Extent}
+use Rattle.growth.specs.declared.Extent.{Extent}
 use Rattle.settling.proofs.Extents.{extent_agree}
 use Rattle.cleanup.specs.Cleanup.{cleanup_said, after_split, clean_at, cleanup_topology}
 

@@ -20,7 +20,7 @@ use Rattle.growth.specs.Growth.{Growing, growing, settled}
 use Rattle.settling.specs.Settling.{limits_of, extent_said}
 use Rattle.rounds.specs.Rounds.{rounds}
 use Rattle.dedupeedges.specs.DedupeEdges.{Left, left_by, as_lent, lent_enough}
-use Rattle.settling.specs.declared.Extent.{Extent}
+use Rattle.growth.specs.declared.Extent.{Extent}
 
 abbrev pub cleanup_said : Result Extent Refusal → Said
 cleanup_said = extent_said

@@ -1,2 +1,3 @@
+pub mod Stops
 pub mod Grown
 pub mod Cases

@@ -8,7 +8,7 @@ use Rattle.walks.specs.Walk.{onward}
 use Rattle.searches.specs.Seek.{Place, met, round, missing, seek}
 use Rattle.growth.specs.declared.Limits.{Limits}
 use Rattle.growth.specs.Growth.{Growing, rows_of, halted, halt, copy_round}
-pub use Rattle.inserting.specs.Inserting.{Stood, stood, stands}
+pub use Rattle.inserting.specs.Inserting.{Stood, stood, Stands}
 unfoldable pub use Rattle.inserting.specs.Inserting.{pair_new, insert_at, insert}
 
 abbrev pub at_first : Limits → ℕ → ℕ → Growing → Place → Stood

@@ -1,45 +1,42 @@
 // Deduping an edge: the step of dedupe_edge.
 #![tactic(auto)]
 
-ghost use Rattle.std.specs.Prelude.{◌≡◌, List, ℕ, ◌<◌, ℤ};
+ghost use Rattle.std.specs.Prelude.{◌≡◌, List, ℕ, ◌<◌, ℤ, IfOk};
 ghost use Rattle.numbers.specs.Numbers.{halfedge_number, vertex_number};
 ghost use Rattle.searches.specs.Seek.{seek};
-ghost use Rattle.growth.specs.Growth.{so_far, Fits, VerticesFit, Fitting, More};
-ghost use Rattle.dedupe.specs.Dedupe.{stands, at_first, copy_end, second, at_second, dedupe_from, dedupe_at};
+ghost use Rattle.growth.specs.Growth.{so_far, grown_after, beginning, Fits, VerticesFit, Fitting, More};
+ghost use Rattle.dedupe.specs.Dedupe.{stood, Stands, at_first, copy_end, second, at_second, dedupe_from, dedupe_at};
 
-use growth::{Grown, Limits};
-use inserting::Moved;
+use growth::{Extent, Limits};
 use numbers::{Halfedge, Vertex};
 use searches::Sought;
+use steps::Stop;
 
-// The search about the end, from c on: what is inserted where it meets another half-edge from the start s.
+// The search about the end, from c on: what is inserted where it meets another half-edge from the start s. It then stands at the place
+// that is returned.
 fn first(
     rows: &mut [i32],
     positions: &mut [u64],
     normals: &mut [u64],
     references: &mut [i32],
+    used: &mut Extent,
     limits: Limits,
-    grown: Grown,
     s: Vertex,
     v: Vertex,
     c: Halfedge,
     e: Halfedge,
-) -> Moved
-    requires { ((halfedge_number c < grown.halfedges) × ((halfedge_number e < grown.halfedges) × ((vertex_number s < grown.run.vertices) × (vertex_number v < grown.run.vertices)))) × Fitting limits (so_far rows.old positions.old normals.old references.old grown) }
-    ensures { (stands rows.new positions.new normals.new references.new result ≡ at_first limits (vertex_number v) (halfedge_number e) (so_far rows.old positions.old normals.old references.old grown) (seek grown.halfedges (vertex_number s) (halfedge_number e) rows.old grown.halfedges (halfedge_number c))) × ((halfedge_number result.place < grown.halfedges) × (More grown result.grown × Fitting limits (so_far rows.new positions.new normals.new references.new result.grown))) }
+) -> Result<Halfedge, Stop>
+    requires { ((halfedge_number c < used.old.halfedges) × ((halfedge_number e < used.old.halfedges) × ((vertex_number s < used.old.vertices) × (vertex_number v < used.old.vertices)))) × Fitting limits (beginning rows.old positions.old normals.old references.old used.old) }
+    ensures step { Stands rows.new positions.new normals.new references.new used.new result (at_first limits (vertex_number v) (halfedge_number e) (beginning rows.old positions.old normals.old references.old used.old) (seek used.old.halfedges (vertex_number s) (halfedge_number e) rows.old used.old.halfedges (halfedge_number c))) }
+    ensures within { More used.old used.new × Fitting limits (beginning rows.new positions.new normals.new references.new used.new) }
+    ensures place { IfOk result (λ h. halfedge_number h < used.new.halfedges) }
 {
-    match searches::seek(rows, grown.halfedges, s, c, e) {
+    match searches::seek(rows, used.halfedges, s, c, e) {
         Sought::Met(h) => inserting::insert(
-            rows, positions, normals, references, limits, grown, v, h, e,
+            rows, positions, normals, references, used, limits, v, h, e,
         ),
-        Sought::Round(h) => Moved {
-            grown: grown,
-            place: h,
-        },
-        Sought::Missing => Moved {
-            grown: growth::halt(grown),
-            place: e,
-        },
+        Sought::Round(h) => Ok(h),
+        Sought::Missing => Err(Stop::Stopped),
     }
 }
 
@@ -47,39 +44,40 @@ fn first(
 fn copy_end(
     rows: &mut [i32],
     positions: &mut [u64],
+    used: &mut Extent,
     limits: Limits,
-    moved: Moved,
     v: Vertex,
+    place: Halfedge,
     e: Halfedge,
-) -> Grown
-    requires { ((halfedge_number moved.place < moved.grown.halfedges) × (vertex_number v < moved.grown.run.vertices)) × (Fits limits moved.grown.halfedges rows.old × VerticesFit limits moved.grown.run.vertices positions.old) }
-    ensures { ((n : List ℕ) (f : List ℤ) → so_far rows.new positions.new n f result ≡ copy_end limits (vertex_number v) (halfedge_number e) (stands rows.old positions.old n f moved)) × (More moved.grown result × (Fits limits result.halfedges rows.new × VerticesFit limits result.run.vertices positions.new)) }
+) -> Result<(), Stop>
+    requires { ((halfedge_number place < used.old.halfedges) × (vertex_number v < used.old.vertices)) × (Fits limits used.old.halfedges rows.old × VerticesFit limits used.old.vertices positions.old) }
+    ensures step { (n : List ℕ) (f : List ℤ) → so_far rows.new positions.new n f (grown_after used.new result) ≡ copy_end limits (vertex_number v) (halfedge_number e) (stood (beginning rows.old positions.old n f used.old) (halfedge_number place)) }
+    ensures within { More used.old used.new × (Fits limits used.new.halfedges rows.new × VerticesFit limits used.new.vertices positions.new) }
 {
-    let grown = moved.grown;
-    let place = moved.place;
     if place == e {
-        return growth::copy_round(rows, positions, limits, grown, v, place.next());
+        return growth::copy_round(rows, positions, used, limits, v, place.next());
     }
-    grown
+    Ok(())
 }
 
 // The search about the start, from c on until the partner p: connected, or the start's fan gets a copy of the END.
 fn about_start(
     rows: &mut [i32],
     positions: &mut [u64],
+    used: &mut Extent,
     limits: Limits,
-    grown: Grown,
     v: Vertex,
     c: Halfedge,
     p: Halfedge,
-) -> Grown
-    requires { ((halfedge_number c < grown.halfedges) × (vertex_number v < grown.run.vertices)) × (Fits limits grown.halfedges rows.old × VerticesFit limits grown.run.vertices positions.old) }
-    ensures { ((n : List ℕ) (f : List ℤ) → so_far rows.new positions.new n f result ≡ at_second limits (vertex_number v) (so_far rows.old positions.old n f grown) (seek grown.halfedges (vertex_number v) (halfedge_number p) rows.old grown.halfedges (halfedge_number c))) × (More grown result × (Fits limits result.halfedges rows.new × VerticesFit limits result.run.vertices positions.new)) }
+) -> Result<(), Stop>
+    requires { ((halfedge_number c < used.old.halfedges) × (vertex_number v < used.old.vertices)) × (Fits limits used.old.halfedges rows.old × VerticesFit limits used.old.vertices positions.old) }
+    ensures step { (n : List ℕ) (f : List ℤ) → so_far rows.new positions.new n f (grown_after used.new result) ≡ at_second limits (vertex_number v) (beginning rows.old positions.old n f used.old) (seek used.old.halfedges (vertex_number v) (halfedge_number p) rows.old used.old.halfedges (halfedge_number c)) }
+    ensures within { More used.old used.new × (Fits limits used.new.halfedges rows.new × VerticesFit limits used.new.vertices positions.new) }
 {
-    match searches::seek(rows, grown.halfedges, v, c, p) {
-        Sought::Met(_) => grown,
-        Sought::Round(h) => growth::copy_round(rows, positions, limits, grown, v, h.next()),
-        Sought::Missing => growth::halt(grown),
+    match searches::seek(rows, used.halfedges, v, c, p) {
+        Sought::Met(_) => Ok(()),
+        Sought::Round(h) => growth::copy_round(rows, positions, used, limits, v, h.next()),
+        Sought::Missing => Err(Stop::Stopped),
     }
 }
 
@@ -87,26 +85,18 @@ fn about_start(
 fn second(
     rows: &mut [i32],
     positions: &mut [u64],
+    used: &mut Extent,
     limits: Limits,
-    grown: Grown,
     v: Vertex,
     e: Halfedge,
-) -> Grown
-    requires { ((halfedge_number e < grown.halfedges) × (vertex_number v < grown.run.vertices)) × (Fits limits grown.halfedges rows.old × VerticesFit limits grown.run.vertices positions.old) }
-    ensures { ((n : List ℕ) (f : List ℤ) → so_far rows.new positions.new n f result ≡ second limits (vertex_number v) (halfedge_number e) (so_far rows.old positions.old n f grown)) × (More grown result × (Fits limits result.halfedges rows.new × VerticesFit limits result.run.vertices positions.new)) }
+) -> Result<(), Stop>
+    requires { ((halfedge_number e < used.old.halfedges) × (vertex_number v < used.old.vertices)) × (Fits limits used.old.halfedges rows.old × VerticesFit limits used.old.vertices positions.old) }
+    ensures step { (n : List ℕ) (f : List ℤ) → so_far rows.new positions.new n f (grown_after used.new result) ≡ second limits (vertex_number v) (halfedge_number e) (beginning rows.old positions.old n f used.old) }
+    ensures within { More used.old used.new × (Fits limits used.new.halfedges rows.new × VerticesFit limits used.new.vertices positions.new) }
 {
-    let used = grown.halfedges;
-    let run = grown.run;
-    if steps::refused(run) {
-        return grown;
-    }
-    let Some(p) = rows::halfedges::pair_of(rows, e, used) else {
-        return growth::halt(grown);
-    };
-    let Some(c) = walks::onward(rows, used, p) else {
-        return growth::halt(grown);
-    };
-    about_start(rows, positions, limits, grown, v, c, p)
+    let p = steps::pair_of(rows, e, used.halfedges)?;
+    let c = steps::pair_of(rows, p.next(), used.halfedges)?;
+    about_start(rows, positions, used, limits, v, c, p)
 }
 
 // Both searches, where the edge's start s and end v are there, and c behind it.
@@ -115,21 +105,22 @@ fn dedupe_from(
     positions: &mut [u64],
     normals: &mut [u64],
     references: &mut [i32],
+    used: &mut Extent,
     limits: Limits,
-    grown: Grown,
     s: Vertex,
     v: Vertex,
     c: Halfedge,
     e: Halfedge,
-) -> Grown
-    requires { ((halfedge_number c < grown.halfedges) × ((halfedge_number e < grown.halfedges) × ((vertex_number s < grown.run.vertices) × (vertex_number v < grown.run.vertices)))) × Fitting limits (so_far rows.old positions.old normals.old references.old grown) }
-    ensures { (so_far rows.new positions.new normals.new references.new result ≡ dedupe_from limits (vertex_number s) (vertex_number v) (halfedge_number c) (halfedge_number e) (so_far rows.old positions.old normals.old references.old grown)) × (More grown result × Fitting limits (so_far rows.new positions.new normals.new references.new result)) }
+) -> Result<(), Stop>
+    requires { ((halfedge_number c < used.old.halfedges) × ((halfedge_number e < used.old.halfedges) × ((vertex_number s < used.old.vertices) × (vertex_number v < used.old.vertices)))) × Fitting limits (beginning rows.old positions.old normals.old references.old used.old) }
+    ensures step { so_far rows.new positions.new normals.new references.new (grown_after used.new result) ≡ dedupe_from limits (vertex_number s) (vertex_number v) (halfedge_number c) (halfedge_number e) (beginning rows.old positions.old normals.old references.old used.old) }
+    ensures within { More used.old used.new × Fitting limits (beginning rows.new positions.new normals.new references.new used.new) }
 {
-    let moved = first(
-        rows, positions, normals, references, limits, grown, s, v, c, e,
-    );
-    let copied = copy_end(rows, positions, limits, moved, v, e);
-    second(rows, positions, limits, copied, v, e)
+    let place = first(
+        rows, positions, normals, references, used, limits, s, v, c, e,
+    )?;
+    copy_end(rows, positions, used, limits, v, place, e)?;
+    second(rows, positions, used, limits, v, e)
 }
 
 // The step of dedupe_edge.
@@ -138,29 +129,18 @@ pub fn dedupe_step(
     positions: &mut [u64],
     normals: &mut [u64],
     references: &mut [i32],
+    used: &mut Extent,
     limits: Limits,
-    grown: Grown,
     e: Halfedge,
-) -> Grown
-    requires { (halfedge_number e < grown.halfedges) × Fitting limits (so_far rows.old positions.old normals.old references.old grown) }
-    ensures { (so_far rows.new positions.new normals.new references.new result ≡ dedupe_at limits (halfedge_number e) (so_far rows.old positions.old normals.old references.old grown)) × (More grown result × Fitting limits (so_far rows.new positions.new normals.new references.new result)) }
+) -> Result<(), Stop>
+    requires { (halfedge_number e < used.old.halfedges) × Fitting limits (beginning rows.old positions.old normals.old references.old used.old) }
+    ensures step { so_far rows.new positions.new normals.new references.new (grown_after used.new result) ≡ dedupe_at limits (halfedge_number e) (beginning rows.old positions.old normals.old references.old used.old) }
+    ensures within { More used.old used.new × Fitting limits (beginning rows.new positions.new normals.new references.new used.new) }
 {
-    let used = grown.halfedges;
-    let run = grown.run;
-    if steps::refused(run) {
-        return grown;
-    }
-    let vertices = run.vertices;
-    let Some(s) = rows::halfedges::start_of(rows, e, vertices) else {
-        return growth::halt(grown);
-    };
-    let Some(v) = rows::halfedges::end_of(rows, e, vertices) else {
-        return growth::halt(grown);
-    };
-    let Some(c) = walks::onward(rows, used, e) else {
-        return growth::halt(grown);
-    };
+    let s = steps::start_of(rows, e, used.vertices)?;
+    let v = steps::end_of(rows, e, used.vertices)?;
+    let c = steps::pair_of(rows, e.next(), used.halfedges)?;
     dedupe_from(
-        rows, positions, normals, references, limits, grown, s, v, c, e,
+        rows, positions, normals, references, used, limits, s, v, c, e,
     )
 }

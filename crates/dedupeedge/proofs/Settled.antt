@@ -6,9 +6,8 @@ use lib.IntN.{ℤ}
 use Rattle.answers.specs.Answers.{Said}
 use Rattle.rows.specs.Halfedges.{over_rows}
 use Rattle.rows.specs.Triples.{over_triples}
-use Rattle.growth.specs.declared.Grown.{Grown}
 use Rattle.growth.specs.declared.Limits.{Limits}
-use Rattle.growth.specs.Growth.{Growing, so_far, settled}
+use Rattle.growth.specs.Growth.{Growing, Grown, so_far, settled}
 use Rattle.settling.specs.Settling.{begun, said_of_grown}
 use Rattle.dedupe.specs.Dedupe.{dedupe_at}
 use Rattle.dedupeedge.specs.DedupeEdge.{left, left_by, dedupe_edge_at}

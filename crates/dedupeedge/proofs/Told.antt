@@ -13,7 +13,7 @@ use Rattle.net.specs.Net.{Net}
 use Rattle.growth.specs.declared.Limits.{Limits}
 use Rattle.growth.specs.Growth.{Growing, halted}
 use Rattle.settling.specs.Settling.{begun}
-use Rattle.settling.specs.declared.Extent.{Extent}
+use Rattle.growth.specs.declared.Extent.{Extent}
 use Rattle.settling.proofs.Extents.{extent_agree}
 use Rattle.dedupe.specs.Dedupe.{dedupe_at}
 use Rattle.dedupeedge.specs.DedupeEdge.{Left, left, dedupe_said, dedupe_edge_at, dedupe_edge}

@@ -14,7 +14,7 @@ use Rattle.steps.specs.Entries.{past}
 use Rattle.growth.specs.declared.Limits.{Limits}
 use Rattle.growth.specs.Growth.{Growing, rows_of, settled}
 use Rattle.settling.specs.Settling.{limits_of, begun, grown_said, extent_said}
-use Rattle.settling.specs.declared.Extent.{Extent}
+use Rattle.growth.specs.declared.Extent.{Extent}
 use Rattle.dedupe.specs.Dedupe.{dedupe_at}
 
 abbrev pub dedupe_said : Result Extent Refusal → Said

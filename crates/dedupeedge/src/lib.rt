@@ -10,11 +10,10 @@ ghost use Rattle.growth.specs.Growth.{Fitting};
 ghost use Rattle.settling.specs.Settling.{begun};
 ghost use Rattle.dedupeedge.specs.DedupeEdge.{dedupe_said, left, dedupe_edge_at, dedupe_named, dedupe_edge};
 
-use growth::Limits;
+use growth::{Extent, Limits};
 use net::Counts;
 use numbers::Halfedge;
 use refused::Refusal;
-use settling::Extent;
 
 // dedupe_edge past the checks: the rows in use go to the spare, the steps work in place, and a refusal puts everything back.
 fn dedupe_settled(
@@ -34,15 +33,11 @@ fn dedupe_settled(
 {
     rows::halfedges::copy(rows, spare_halfedges, halfedges);
     rows::triples::copy(positions, spare_positions, vertices);
-    let grown = dedupe::dedupe_step(
-        rows,
-        positions,
-        normals,
-        references,
-        limits,
-        settling::begun(halfedges, vertices),
-        e,
-    );
+    let mut used = Extent {
+        halfedges,
+        vertices,
+    };
+    let went = dedupe::dedupe_step(rows, positions, normals, references, &mut used, limits, e);
     settling::settle_grown(
         rows,
         positions,
@@ -53,12 +48,14 @@ fn dedupe_settled(
         halfedges,
         vertices,
         limits,
-        grown,
+        used,
+        went,
     );
-    settling::answer(grown)
+    settling::answer(used, went)
 }
 
 // Dedupes the half-edge that a caller's number names.
+#[tactic(auto, unfolding(crate::specs::DedupeEdge::dedupe_named))]
 fn dedupe_named(
     rows: &mut [i32],
     positions: &mut [u64],
@@ -93,6 +90,7 @@ fn dedupe_named(
 }
 
 // The entry dedupe_edge: on Ok the half-edges and vertices in use afterwards.
+#[tactic(auto, using(refused::proofs::Laws::refused_number), unfolding(crate::specs::DedupeEdge::dedupe_edge))]
 pub fn dedupe_edge(
     counts: Counts,
     halfedges: &mut [i32],

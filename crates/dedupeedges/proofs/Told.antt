@@ -13,7 +13,7 @@ use Rattle.net.specs.Net.{Net}
 use Rattle.growth.specs.declared.Limits.{Limits}
 use Rattle.growth.specs.Growth.{Growing, halted}
 use Rattle.settling.specs.Settling.{begun}
-use Rattle.settling.specs.declared.Extent.{Extent}
+use Rattle.growth.specs.declared.Extent.{Extent}
 use Rattle.settling.proofs.Extents.{extent_agree}
 use Rattle.rounds.specs.Rounds.{rounds}
 use Rattle.dedupeedges.specs.DedupeEdges.{Left, left, edges_said, rounds_at, dedupe_edges}

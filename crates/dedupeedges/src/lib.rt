@@ -1,60 +1,15 @@
 // The entry dedupe_edges: the checks, then the rounds, which a spare lets put everything back.
 #![tactic(auto)]
 
-ghost use Rattle.std.specs.Prelude.{◌≡◌, ◌≤◌, length};
-ghost use Rattle.laws.specs.Stretches.{cleared};
-ghost use Rattle.rows.specs.Halfedges.{lent_halfedges};
-ghost use Rattle.rows.specs.Triples.{lent_triples};
+ghost use Rattle.std.specs.Prelude.{◌≡◌};
 ghost use Rattle.net.specs.Net.{net};
-ghost use Rattle.growth.specs.Growth.{so_far, Fitting};
-ghost use Rattle.settling.specs.Settling.{begun, settled_by};
-ghost use Rattle.rounds.specs.Rounds.{rounds};
+ghost use Rattle.growth.specs.Growth.{Fitting};
+ghost use Rattle.settling.specs.Settling.{begun};
 ghost use Rattle.dedupeedges.specs.DedupeEdges.{edges_said, left, Enough, lent_enough, rounds_at, dedupe_edges};
 
-use growth::{Grown, Limits};
+use growth::{Extent, Limits};
 use net::Counts;
 use refused::Refusal;
-use settling::Extent;
-
-// The rounds, settled from a spare that holds what was in use: work buffer and list read zero over `long` and over the half-edge capacity.
-pub fn rounds_settled(
-    rows: &mut [i32],
-    positions: &mut [u64],
-    normals: &mut [u64],
-    references: &mut [i32],
-    spare_halfedges: &[i32],
-    spare_positions: &[u64],
-    work: &mut [u32],
-    list: &mut [u32],
-    limits: Limits,
-    halfedges: usize,
-    vertices: usize,
-    long: usize,
-    grown: Grown,
-) -> Grown
-    requires { Fitting limits (so_far rows.old positions.old normals.old references.old grown) × (((halfedges ≤ grown.halfedges) × (vertices ≤ grown.run.vertices)) × Enough limits halfedges vertices long spare_halfedges.now spare_positions.now work.old list.old) }
-    ensures { (so_far rows.new positions.new normals.new references.new result ≡ settled_by limits halfedges vertices spare_halfedges.now spare_positions.now (rounds limits grown.halfedges (so_far rows.old positions.old normals.old references.old grown)).growing) × ((work.new ≡ cleared long work.old) × (list.new ≡ cleared limits.halfedges list.old)) }
-{
-    let ended = rounds::rounds(
-        rows, positions, normals, references, work, list, limits, grown,
-    );
-    let grew = ended.grown;
-    settling::settle_grown(
-        rows,
-        positions,
-        normals,
-        references,
-        spare_halfedges,
-        spare_positions,
-        halfedges,
-        vertices,
-        limits,
-        grew,
-    );
-    stretches::fill(work, 0, 0, long);
-    stretches::fill(list, 0, 0, limits.halfedges);
-    grew
-}
 
 // dedupe_edges past the checks: the rows in use go to the spare, the rounds work in place, and a refusal puts everything back.
 fn rounds_at(
@@ -75,22 +30,30 @@ fn rounds_at(
 {
     rows::halfedges::copy(rows, spare_halfedges, halfedges);
     rows::triples::copy(positions, spare_positions, vertices);
-    let grown = rounds_settled(
+    let mut used = Extent {
+        halfedges,
+        vertices,
+    };
+    let clean = rounds::rounds(
+        rows, positions, normals, references, work, list, &mut used, limits,
+    );
+    let went = clean.and(Ok(()));
+    stretches::fill(work, 0, 0, limits.halfedges);
+    stretches::fill(list, 0, 0, limits.halfedges);
+    settling::settle_grown(
         rows,
         positions,
         normals,
         references,
         spare_halfedges,
         spare_positions,
-        work,
-        list,
-        limits,
         halfedges,
         vertices,
-        limits.halfedges,
-        settling::begun(halfedges, vertices),
+        limits,
+        used,
+        went,
     );
-    settling::answer(grown)
+    settling::answer(used, went)
 }
 
 // Whether the spare holds the rows in use, and work buffer and list are not too short.
@@ -111,6 +74,7 @@ pub fn enough(
 }
 
 // The entry dedupe_edges: on Ok the half-edges and vertices in use afterwards.
+#[tactic(auto, using(refused::proofs::Laws::refused_number), unfolding(crate::specs::DedupeEdges::dedupe_edges))]
 pub fn dedupe_edges(
     counts: Counts,
     halfedges: &mut [i32],

@@ -1,5 +1,5 @@
 -- A net that grows in the middle of an operation: half-edge rows, and with them normals and references, are appended too.
-use Rattle.std.specs.Prelude.{Bool, true, cond, ◌≡◌, List, ℕ, ◌+◌, ◌/◌, ◌%◌, ◌≤◌, leb, ℤ}
+use Rattle.std.specs.Prelude.{⊤, Result, Bool, true, cond, ◌≡◌, List, ℕ, ◌+◌, ◌/◌, ◌%◌, ◌≤◌, leb, ℤ}
 use Rattle.numbers.specs.Numbers.{names, named_or}
 use Rattle.numbers.specs.Next.{most_halfedges}
 use Rattle.rows.specs.Halfedges.{pair_of, append_triangle, zero_rows, lent_halfedges}
@@ -7,11 +7,12 @@ use Rattle.rows.specs.Triples.{triple, put_triple, reference, put_reference, zer
 use Rattle.net.specs.Counts.{most_vertices}
 use Rattle.pairing.specs.Pairing.{paired}
 use Rattle.steps.specs.Run.{Run}
-use Rattle.steps.specs.Steps.{Middle, middle, refused, NoRoom, Stopped, ended, with_rows}
+use Rattle.steps.specs.declared.Stop.{Stop}
+use Rattle.steps.specs.Steps.{Middle, middle, begin, run_after, refused, NoRoom, Stopped, ended, with_rows}
 use Rattle.walks.specs.Walk.{onward, moved, update}
 use Rattle.loops.specs.Loops.{append}
 use Rattle.growth.specs.declared.Limits.{Limits}
-use Rattle.growth.specs.declared.Grown.{Grown}
+use Rattle.growth.specs.declared.Extent.{Extent}
 
 pub record Growing : Type 0 where
   pub middle : Middle
@@ -23,12 +24,25 @@ pub record Growing : Type 0 where
 abbrev pub growing : Middle → ℕ → List ℕ → List ℤ → Growing
 growing m k n r = record { middle = m; used = k; normals = n; references = r }
 
+-- the half-edges in use so far, and how the steps run
+pub record Grown : Type 0 where
+  pub halfedges : ℕ
+  pub run : Run
+
 abbrev pub grown_to : ℕ → Run → Grown
 grown_to k r = record { halfedges = k; run = r }
+
+-- after steps that left so much in use
+abbrev pub grown_after : Extent → Result ⊤ Stop → Grown
+grown_after x went = grown_to x.halfedges (run_after x.vertices went)
 
 -- the net as the code holds it
 abbrev pub so_far : List ℤ → List ℕ → List ℕ → List ℤ → Grown → Growing
 so_far rows positions normals references g = growing (middle rows positions g.run) g.halfedges normals references
+
+-- where the steps begin, with so much in use
+abbrev pub beginning : List ℤ → List ℕ → List ℕ → List ℤ → Extent → Growing
+beginning rows positions normals references x = growing (begin rows positions x.vertices) x.halfedges normals references
 
 abbrev pub rows_of : Growing → List ℤ
 rows_of w = w.middle.halfedges
@@ -69,9 +83,9 @@ pub record Fitting (l : Limits) (w : Growing) : Type 0 where
   pub faces_fit : FacesFit l w.normals w.references
 
 -- a step gives up no half-edge and no vertex that is in use
-pub record More (a b : Grown) : Type 0 where
+pub record More (a b : Extent) : Type 0 where
   pub halfedges_grow : a.halfedges ≤ b.halfedges
-  pub vertices_grow : a.run.vertices ≤ b.run.vertices
+  pub vertices_grow : a.vertices ≤ b.vertices
 
 -- ---- one triangle beside h: from a to b, on to where h starts, and back; its props are that of e, twice, and that of h
 unfoldable pub add : Limits → ℕ → ℕ → ℕ → ℕ → Growing → Growing

@@ -1,13 +1,15 @@
 -- Inserting, in dedupe_edge: where the search about the end of the edge meets another half-edge from the same start.
-use Rattle.std.specs.Prelude.{cond, List, ℕ, ◌+◌, ℤ}
+use Rattle.std.specs.Prelude.{◌≡◌, Result, Ok, Err, cond, List, ℕ, ◌+◌, ℤ}
 use Rattle.numbers.specs.Numbers.{named_or, halfedge_number}
 use Rattle.numbers.specs.Next.{next}
 use Rattle.pairing.specs.Pairing.{paired}
 use Rattle.steps.specs.Steps.{with_rows}
 use Rattle.walks.specs.Walk.{onward, update}
+use Rattle.numbers.specs.declared.Halfedge.{Halfedge}
+use Rattle.steps.specs.declared.Stop.{Stop}
+use Rattle.growth.specs.declared.Extent.{Extent}
 use Rattle.growth.specs.declared.Limits.{Limits}
-use Rattle.growth.specs.Growth.{Growing, so_far, rows_of, halted, inside, halt, beside, copy_of}
-use Rattle.inserting.specs.declared.Moved.{Moved}
+use Rattle.growth.specs.Growth.{Growing, so_far, grown_after, beginning, rows_of, halted, inside, halt, beside, copy_of}
 
 -- the net, and where the search then stands
 pub record Stood : Type 0 where
@@ -17,9 +19,10 @@ pub record Stood : Type 0 where
 abbrev pub stood : Growing → ℕ → Stood
 stood w h = record { growing = w; place = h }
 
--- as the code holds it
-abbrev pub stands : List ℤ → List ℕ → List ℕ → List ℤ → Moved → Stood
-stands rows positions normals references m = stood (so_far rows positions normals references m.grown) (halfedge_number m.place)
+-- as the code holds it, with so much in use: where the search stands, or why the steps stopped
+abbrev pub Stands : List ℤ → List ℕ → List ℕ → List ℤ → Extent → Result Halfedge Stop → Stood → Type 0
+Stands rows positions normals references x (Ok place) s = stood (beginning rows positions normals references x) (halfedge_number place) ≡ s
+Stands rows positions normals references x (Err stop) s = so_far rows positions normals references (grown_after x (Err stop)) ≡ s.growing
 
 -- the first rows of two triangles appended from row k on become partners
 unfoldable pub pair_new : ℕ → Growing → Growing

@@ -5,6 +5,7 @@ use mathlib.Core.List.{List, [], ◌∷◌}
 use Prim.Native.Nat.{ℕ, zero, suc, ◌+◌, ◌-◌, ◌≤◌, ◌<◌}
 use native.Mathlib.Numerals.{add-one}
 use native.Mathlib.Omega.{arith}
+use borrow.Author.Tests.{eqb-true}
 use lib.Dec.{eqb}
 use lib.ListN.{length, get_or, drop, drop_of_length-le}
 use lib.Seq.{drop-cons}
@@ -90,3 +91,14 @@ module _ (l : Limits) where
   unfolding rounds
   rounds_none zero w e = refl
   rounds_none (suc n) w e = absurd (omega arith)
+
+  -- where the steps have stopped
+  pub each_halted : (ds : List ℕ) (w : Growing) → halted w ≡ true → each l ds w ≡ w
+  unfolding each fix
+  each_halted [] w t = refl
+  each_halted (d ∷ ds) w t = rw t (each_halted ds w t)
+
+  pub rounds_halted : (n : ℕ) (w : Growing) → halted w ≡ true → 0 < w.used → rounded w false ≡ rounds l n w
+  unfolding rounds
+  rounds_halted zero w t b = by_test (eqb w.used 0) (λ u. absurd (let z = eqb-true w.used 0 u in omega (arith, b, z))) (λ u. rw u)
+  rounds_halted (suc n) w t b = rw t

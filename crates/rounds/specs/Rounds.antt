@@ -1,13 +1,11 @@
 -- dedupe_edges past the checks: rounds, each of which lists the duplicates of every fan and then dedupes those that still are.
-use Rattle.std.specs.Prelude.{Bool, true, false, cond, List, [], ◌∷◌, ℕ, zero, suc, eqb, ℤ, take}
+use Rattle.std.specs.Prelude.{Result, Ok, Err, Bool, true, false, cond, List, [], ◌∷◌, ℕ, zero, suc, eqb, ℤ, take}
+use Rattle.steps.specs.declared.Stop.{Stop}
 use Rattle.growth.specs.declared.Limits.{Limits}
-use Rattle.growth.specs.declared.Grown.{Grown}
-use Rattle.growth.specs.Growth.{Growing, so_far, rows_of, halted}
+use Rattle.growth.specs.declared.Extent.{Extent}
+use Rattle.growth.specs.Growth.{Growing, so_far, grown_after, beginning, rows_of, halted}
 use Rattle.searches.specs.Duplicates.{duplicates, still}
 use Rattle.dedupe.specs.Dedupe.{dedupe_at}
-use Rattle.rounds.specs.declared.Rounded.{Rounded as RoundsEnd}
-use Rattle.std.specs.declared.ops.ControlFlow.{ControlFlow}
-use Rattle.std.specs.declared.ops.ControlFlow.TheVariants.{Continue, Break}
 
 -- ---- a round, and the rounds: at most n more
 -- one entry of the list: an earlier one may have mended it
@@ -51,14 +49,12 @@ round l w =
     cond (halted w) (last (rounded w false))
     (cond (no_entry (to_do l w)) (last (rounded w true)) (on (each l (to_do l w) w)))
 
--- what is answered, with what the arrays hold then
-abbrev pub ended_as : List ℤ → List ℕ → List ℕ → List ℤ → RoundsEnd → Rounded
-ended_as rows positions normals references r = rounded (so_far rows positions normals references r.grown) r.clean
+-- what is answered, with what the arrays hold then, and what is in use
+abbrev pub ended_as : List ℤ → List ℕ → List ℕ → List ℤ → Extent → Result Bool Stop → Rounded
+ended_as rows positions normals references x (Ok clean) = rounded (beginning rows positions normals references x) clean
+ended_as rows positions normals references x (Err stop) = rounded (so_far rows positions normals references (grown_after x (Err stop))) false
 
-abbrev pub made_as : List ℤ → List ℕ → List ℕ → List ℤ → ControlFlow RoundsEnd Grown → Went
-made_as rows positions normals references (Break r) = last (ended_as rows positions normals references r)
-made_as rows positions normals references (Continue g) = on (so_far rows positions normals references g)
-
-abbrev pub grown_of : ControlFlow RoundsEnd Grown → Grown
-grown_of (Break r) = r.grown
-grown_of (Continue g) = g
+abbrev pub made_as : List ℤ → List ℕ → List ℕ → List ℤ → Extent → Result Bool Stop → Went
+made_as rows positions normals references x (Ok true) = last (rounded (beginning rows positions normals references x) true)
+made_as rows positions normals references x (Ok false) = on (beginning rows positions normals references x)
+made_as rows positions normals references x (Err stop) = on (so_far rows positions normals references (grown_after x (Err stop)))

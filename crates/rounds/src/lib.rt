@@ -4,19 +4,12 @@
 
 ghost use Rattle.std.specs.Prelude.{◌≡◌, ℕ, ◌<◌, ◌≤◌, length, get_or, take, drop};
 ghost use Rattle.numbers.specs.Numbers.{halfedge_number};
-ghost use Rattle.growth.specs.Growth.{so_far, Fitting, More};
-ghost use Rattle.rounds.specs.Rounds.{fix, each, made_as, grown_of, round, ended_as, rounds};
+ghost use Rattle.growth.specs.Growth.{so_far, grown_after, beginning, Fitting, More};
+ghost use Rattle.rounds.specs.Rounds.{fix, each, made_as, round, ended_as, rounds};
 
-use growth::{Grown, Limits};
+use growth::{Extent, Limits};
 use numbers::Halfedge;
-use std::ops::ControlFlow;
-
-// How the rounds end: the net, and whether it is clean.
-#[derive(Clone, Copy)]
-pub struct Rounded {
-    pub grown: Grown,
-    pub clean: bool,
-}
+use steps::Stop;
 
 // One entry of the list: deduped, where it is still duplicated.
 fn fix(
@@ -24,22 +17,18 @@ fn fix(
     positions: &mut [u64],
     normals: &mut [u64],
     references: &mut [i32],
+    used: &mut Extent,
     limits: Limits,
-    grown: Grown,
     e: Halfedge,
-) -> Grown
-    requires { (halfedge_number e < grown.halfedges) × Fitting limits (so_far rows.old positions.old normals.old references.old grown) }
-    ensures { (so_far rows.new positions.new normals.new references.new result ≡ fix limits (halfedge_number e) (so_far rows.old positions.old normals.old references.old grown)) × (More grown result × Fitting limits (so_far rows.new positions.new normals.new references.new result)) }
+) -> Result<(), Stop>
+    requires { (halfedge_number e < used.old.halfedges) × Fitting limits (beginning rows.old positions.old normals.old references.old used.old) }
+    ensures step { so_far rows.new positions.new normals.new references.new (grown_after used.new result) ≡ fix limits (halfedge_number e) (beginning rows.old positions.old normals.old references.old used.old) }
+    ensures within { More used.old used.new × Fitting limits (beginning rows.new positions.new normals.new references.new used.new) }
 {
-    let used = grown.halfedges;
-    let run = grown.run;
-    if steps::refused(run) {
-        return grown;
+    if !searches::still_duplicated(rows, used.halfedges, e) {
+        return Ok(());
     }
-    if !searches::still_duplicated(rows, used, e) {
-        return grown;
-    }
-    dedupe::dedupe_step(rows, positions, normals, references, limits, grown, e)
+    dedupe::dedupe_step(rows, positions, normals, references, used, limits, e)
 }
 
 // The entries of the list, in its order.
@@ -49,22 +38,22 @@ fn each(
     normals: &mut [u64],
     references: &mut [i32],
     list: &[u32],
+    used: &mut Extent,
     limits: Limits,
-    grown: Grown,
     count: usize,
-) -> Grown
-    requires { (count ≤ length list.now) × (((k : ℕ) → k < count → get_or list.now k 0 < grown.halfedges) × Fitting limits (so_far rows.old positions.old normals.old references.old grown)) }
-    ensures { (so_far rows.new positions.new normals.new references.new result ≡ each limits (take count list.now) (so_far rows.old positions.old normals.old references.old grown)) × (More grown result × Fitting limits (so_far rows.new positions.new normals.new references.new result)) }
+) -> Result<(), Stop>
+    requires { (count ≤ length list.now) × (((k : ℕ) → k < count → get_or list.now k 0 < used.old.halfedges) × Fitting limits (beginning rows.old positions.old normals.old references.old used.old)) }
+    ensures step { so_far rows.new positions.new normals.new references.new (grown_after used.new result) ≡ each limits (take count list.now) (beginning rows.old positions.old normals.old references.old used.old) }
+    ensures within { More used.old used.new × Fitting limits (beginning rows.new positions.new normals.new references.new used.new) }
 {
-    let mut at = grown;
     for d in &list[..count] {
         let e = numbers::halfedge_counted(*d as usize);
-        at = fix(rows, positions, normals, references, limits, at, e);
+        fix(rows, positions, normals, references, used, limits, e)?;
     }
-    at
+    Ok(())
 }
 
-// One round, where the steps go on and there are duplicates; else it breaks off, and the rounds end.
+// One round: whether it found no duplicate, and so ends the rounds.
 fn round(
     rows: &mut [i32],
     positions: &mut [u64],
@@ -72,40 +61,33 @@ fn round(
     references: &mut [i32],
     work: &mut [u32],
     list: &mut [u32],
+    used: &mut Extent,
     limits: Limits,
-    grown: Grown,
-) -> ControlFlow<Rounded, Grown>
-    requires { ((limits.halfedges ≤ length work.old) × (limits.halfedges ≤ length list.old)) × Fitting limits (so_far rows.old positions.old normals.old references.old grown) }
-    ensures { (made_as rows.new positions.new normals.new references.new result ≡ round limits (so_far rows.old positions.old normals.old references.old grown)) × ((More grown (grown_of result) × Fitting limits (so_far rows.new positions.new normals.new references.new (grown_of result))) × ((drop limits.halfedges work.new ≡ drop limits.halfedges work.old) × (drop limits.halfedges list.new ≡ drop limits.halfedges list.old))) }
+) -> Result<bool, Stop>
+    requires { ((limits.halfedges ≤ length work.old) × (limits.halfedges ≤ length list.old)) × Fitting limits (beginning rows.old positions.old normals.old references.old used.old) }
+    ensures step { made_as rows.new positions.new normals.new references.new used.new result ≡ round limits (beginning rows.old positions.old normals.old references.old used.old) }
+    ensures within { More used.old used.new × Fitting limits (beginning rows.new positions.new normals.new references.new used.new) }
+    ensures beyond { (drop limits.halfedges work.new ≡ drop limits.halfedges work.old) × (drop limits.halfedges list.new ≡ drop limits.halfedges list.old) }
 {
-    let run = grown.run;
-    if steps::refused(run) {
-        return ControlFlow::Break(Rounded {
-            grown: grown,
-            clean: false,
-        });
-    }
     let count = tables::list_duplicates(
         rows,
         work,
         list,
-        grown.halfedges,
-        run.vertices,
+        used.halfedges,
+        used.vertices,
         limits.halfedges,
     );
     if count == 0 {
-        return ControlFlow::Break(Rounded {
-            grown: grown,
-            clean: true,
-        });
+        return Ok(true);
     }
-    ControlFlow::Continue(each(
-        rows, positions, normals, references, list, limits, grown, count,
-    ))
+    each(
+        rows, positions, normals, references, list, used, limits, count,
+    )?;
+    Ok(false)
 }
 
-// The rounds: at most as many as there are half-edges at entry. Of the work buffer and the list no more than the half-edge capacity is
-// written.
+// The rounds: at most as many as there are half-edges at entry. Whether the net is clean: the last round found no duplicate, or there is
+// no half-edge. Of the work buffer and the list no more than the half-edge capacity is written.
 pub fn rounds(
     rows: &mut [i32],
     positions: &mut [u64],
@@ -113,25 +95,20 @@ pub fn rounds(
     references: &mut [i32],
     work: &mut [u32],
     list: &mut [u32],
+    used: &mut Extent,
     limits: Limits,
-    grown: Grown,
-) -> Rounded
-    requires { ((limits.halfedges ≤ length work.old) × (limits.halfedges ≤ length list.old)) × Fitting limits (so_far rows.old positions.old normals.old references.old grown) }
-    ensures { (ended_as rows.new positions.new normals.new references.new result ≡ rounds limits grown.halfedges (so_far rows.old positions.old normals.old references.old grown)) × ((More grown result.grown × Fitting limits (so_far rows.new positions.new normals.new references.new result.grown)) × ((drop limits.halfedges work.new ≡ drop limits.halfedges work.old) × (drop limits.halfedges list.new ≡ drop limits.halfedges list.old))) }
+) -> Result<bool, Stop>
+    requires { ((limits.halfedges ≤ length work.old) × (limits.halfedges ≤ length list.old)) × Fitting limits (beginning rows.old positions.old normals.old references.old used.old) }
+    ensures step { ended_as rows.new positions.new normals.new references.new used.new result ≡ rounds limits used.old.halfedges (beginning rows.old positions.old normals.old references.old used.old) }
+    ensures within { More used.old used.new × Fitting limits (beginning rows.new positions.new normals.new references.new used.new) }
+    ensures beyond { (drop limits.halfedges work.new ≡ drop limits.halfedges work.old) × (drop limits.halfedges list.new ≡ drop limits.halfedges list.old) }
 {
-    let mut at = grown;
-    for _ in 0..grown.halfedges {
-        match round(rows, positions, normals, references, work, list, limits, at) {
-            ControlFlow::Break(ended) => {
-                return ended;
-            }
-            ControlFlow::Continue(g) => {
-                at = g;
-            }
+    for _ in 0..used.halfedges {
+        if round(
+            rows, positions, normals, references, work, list, used, limits,
+        )? {
+            return Ok(true);
         }
     }
-    Rounded {
-        grown: at,
-        clean: at.halfedges == 0,
-    }
+    Ok(used.halfedges == 0)
 }

@@ -7,16 +7,17 @@ use native.Mathlib.Omega.{arith}
 use borrow.Author.Tests.{ltb-true}
 use lib.IntN.{ℤ}
 use lib.ListN.{length}
+use Rattle.std.specs.Prelude.{⊤, Result}
 use Rattle.rows.specs.Halfedges.{lent_halfedges, over_rows}
 use Rattle.rows.specs.Triples.{lent_triples, over_triples}
 use Rattle.net.specs.declared.Counts.{Counts}
 use Rattle.net.specs.Net.{Net, net}
 use Rattle.net.specs.Counts.{Shaped, triangle_capacity_over, vertex_capacity_over}
 use Rattle.net.proofs.Shape.{capacities}
-use Rattle.steps.specs.Steps.{middle}
-use Rattle.growth.specs.declared.Grown.{Grown}
+use Rattle.steps.specs.declared.Stop.{Stop}
+use Rattle.growth.specs.declared.Extent.{Extent}
 use Rattle.growth.specs.declared.Limits.{Limits}
-use Rattle.growth.specs.Growth.{Growing, growing, settled}
+use Rattle.growth.specs.Growth.{Growing, so_far, grown_after, settled}
 use Rattle.settling.specs.Settling.{limits_of, begun, settled_by, Settles}
 use Rattle.settling.proofs.Grows.{settle_grown_same}
 use Rattle.settling.proofs.Kept.{Fitting, Grew}
@@ -46,10 +47,10 @@ begun_fits c n s =
     }
 
 -- what has grown from it, with a spare for what was in use
-pub grew_settles : {l : Limits} {H N : ℕ} {rows after : List ℤ} {positions left normals more : List ℕ} {references marked : List ℤ} (spare_halfedges : List ℤ) (spare_positions : List ℕ) (g : Grown) →
-    H ≤ lent_halfedges spare_halfedges → N ≤ lent_triples spare_positions → Grew l (begun H N rows positions normals references) (growing (middle after left g.run) g.halfedges more marked) →
-    Settles l H N after left more marked spare_halfedges spare_positions g
-grew_settles spare_halfedges spare_positions g hs hp k = record {
+pub grew_settles : {l : Limits} {H N : ℕ} {rows after : List ℤ} {positions left normals more : List ℕ} {references marked : List ℤ} (spare_halfedges : List ℤ) (spare_positions : List ℕ) (x : Extent) (went : Result ⊤ Stop) →
+    H ≤ lent_halfedges spare_halfedges → N ≤ lent_triples spare_positions → Grew l (begun H N rows positions normals references) (so_far after left more marked (grown_after x went)) →
+    Settles l H N after left more marked spare_halfedges spare_positions x
+grew_settles spare_halfedges spare_positions x went hs hp k = record {
   halfedges_spared = hs;
   positions_spared = hp;
   halfedges_grow = k.grows.halfedges_grow;

@@ -6,7 +6,7 @@ use Rattle.std.specs.Prelude.{Result}
 use Rattle.answers.specs.Answers.{Value, value, counted, whole}
 use Rattle.refused.specs.declared.Refusal.{Refusal}
 use Rattle.refused.proofs.Laws.{said_agree}
-use Rattle.settling.specs.declared.Extent.{Extent}
+use Rattle.growth.specs.declared.Extent.{Extent}
 use Rattle.settling.specs.Settling.{extent_said}
 
 -- read back from the values

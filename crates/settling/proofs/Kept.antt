@@ -1,6 +1,6 @@
 -- Each step of a growing net leaves alone what Grows says, on any rows, and stays within what there can be.
 use mathlib.Core.Path.{◌≡◌, refl, sym, ◌∙◌}
-use mathlib.Core.Bool.{true, false, true≢false, cond}
+use mathlib.Core.Bool.{false, true≢false, cond}
 use Prim.Native.Nat.{ℕ, ◌+◌, ◌/◌, ◌%◌, ◌<◌, ◌≤◌}
 use native.Mathlib.Nat.{le_refl}
 use native.Mathlib.Omega.{arith}
@@ -24,6 +24,7 @@ use Rattle.growth.specs.declared.Limits.{Limits}
 use Rattle.growth.specs.Growth.{Growing, growing, rows_of, halted, inside, halt, add, join, face, beside, relabel, copy_of, copy_round}
 pub use Rattle.growth.specs.Growth.{Fitting}
 use Rattle.growth.proofs.Fit.{grown_fits}
+use Rattle.growth.proofs.Stops.{join_halted, face_halted}
 use Rattle.growth.proofs.Triangle.{length_triangle, triangle_behind}
 use Rattle.settling.proofs.Appended.{appended_none, appended_put}
 use Rattle.settling.proofs.Grows.{Grows, grows_same, grows_trans, inside_grows}
@@ -194,14 +195,6 @@ module _ (l : Limits) where
         };
       }))
 
-  join_halted : (k h : ℕ) (w : Growing) → halted w ≡ true → join k h w ≡ w
-  unfolding join
-  join_halted k h w t = rw t
-
-  face_halted : (t u : ℕ) (w : Growing) → halted w ≡ true → face l t u w ≡ w
-  unfolding face
-  face_halted t u w k = rw k
-
   face_used : (t u : ℕ) (w : Growing) → (face l t u w).used ≡ w.used
   unfolding face
   face_used t u w = by_test (halted w) (λ k. rw k) (λ k. rw k)
@@ -226,7 +219,7 @@ module _ (l : Limits) where
       go : (x : Growing) → OneMore w x → OneMore w (face l (h / 3) (w.used / 3) (join w.used h x))
       go x g =
           by_test (halted x)
-          (λ t. rw (join_halted w.used h x t, face_halted (h / 3) (w.used / 3) x t) g)
+          (λ t. rw (join_halted l x t w.used h, face_halted l x t (h / 3) (w.used / 3)) g)
           (λ t.
           let c = (g.1 t).1 in
           let j = joined_grew w.used h x g.0.fitting c (omega arith) in

@@ -8,14 +8,13 @@ use Rattle.net.specs.Net.{Net}
 use Rattle.net.specs.Counts.{halfedge_capacity_over, vertex_capacity_over}
 use Rattle.steps.specs.Run.{How}
 use Rattle.steps.specs.Run as W
-use Rattle.steps.specs.Steps.{begun_run, begin, with_rows}
+use Rattle.steps.specs.Steps.{begin, with_rows}
 use Rattle.steps.specs.Settle as S
 use Rattle.refused.specs.declared.Refusal.{Refusal}
 use Rattle.refused.specs.Refused.{said}
-use Rattle.settling.specs.declared.Extent.{Extent}
-use Rattle.growth.specs.declared.Grown.{Grown}
+use Rattle.growth.specs.declared.Extent.{Extent}
 use Rattle.growth.specs.declared.Limits.{Limits}
-use Rattle.growth.specs.Growth.{Growing, growing, rows_of, halted}
+use Rattle.growth.specs.Growth.{Growing, growing, Grown, rows_of, halted}
 
 -- what there can be, over what is lent: the capacities, and whether some normals, and references, are in use
 abbrev pub limits_over : Counts → List ℤ → List ℕ → List ℕ → List ℤ → Limits
@@ -30,9 +29,6 @@ abbrev pub limits_of : Counts → Net → Limits
 limits_of c n = limits_over c n.halfedges n.positions n.normals n.references
 
 -- the steps begin, with H half-edges and N vertices in use
-abbrev pub begun_with : ℕ → ℕ → Grown
-begun_with H N = record { halfedges = H; run = begun_run N }
-
 abbrev pub begun : ℕ → ℕ → List ℤ → List ℕ → List ℕ → List ℤ → Growing
 begun H N rows positions normals references = growing (begin rows positions N) H normals references
 
@@ -59,12 +55,12 @@ settled_by l H N spare_halfedges spare_positions w =
     w
 
 -- what it needs: the rows in use at entry are within the spare, and those in use now, of which there are no fewer, are lent
-pub record Settles (l : Limits) (H N : ℕ) (rows : List ℤ) (positions normals : List ℕ) (references spare_halfedges : List ℤ) (spare_positions : List ℕ) (g : Grown) : Type 0 where
+pub record Settles (l : Limits) (H N : ℕ) (rows : List ℤ) (positions normals : List ℕ) (references spare_halfedges : List ℤ) (spare_positions : List ℕ) (x : Extent) : Type 0 where
   pub halfedges_spared : H ≤ lent_halfedges spare_halfedges
   pub positions_spared : N ≤ lent_triples spare_positions
-  pub halfedges_grow : H ≤ g.halfedges
-  pub halfedges_lent : g.halfedges ≤ lent_halfedges rows
-  pub vertices_grow : N ≤ g.run.vertices
-  pub vertices_lent : g.run.vertices ≤ lent_triples positions
-  pub normals_lent : l.normals ≡ true → g.halfedges / 3 ≤ lent_triples normals
-  pub references_lent : l.references ≡ true → g.halfedges / 3 ≤ lent_triples references
+  pub halfedges_grow : H ≤ x.halfedges
+  pub halfedges_lent : x.halfedges ≤ lent_halfedges rows
+  pub vertices_grow : N ≤ x.vertices
+  pub vertices_lent : x.vertices ≤ lent_triples positions
+  pub normals_lent : l.normals ≡ true → x.halfedges / 3 ≤ lent_triples normals
+  pub references_lent : l.references ≡ true → x.halfedges / 3 ≤ lent_triples references

@@ -1,26 +1,18 @@
-// How an operation on a net that grows begins and ends: what there can be, taken once at entry; and at the end, where a step has
-// refused, everything put back. And what its entry answers.
+// How an operation on a net that grows begins and ends: what there can be, taken once at entry; and at the end, where the steps
+// stopped, everything put back. And what its entry answers.
 #![tactic(auto)]
 
 ghost use Rattle.std.specs.Prelude.{◌≡◌, true, cond, ◌*◌, ◌/◌, ◌≤◌};
 ghost use Rattle.laws.specs.Stretches.{filled};
 ghost use Rattle.rows.specs.Halfedges.{lent_halfedges};
 ghost use Rattle.rows.specs.Triples.{lent_triples};
-ghost use Rattle.steps.specs.Steps.{middle};
-ghost use Rattle.growth.specs.Growth.{growing};
-ghost use Rattle.settling.specs.Settling.{begun_with, limits_over, Settles, settled_by, extent_said, said_of_grown};
+ghost use Rattle.growth.specs.Growth.{so_far, grown_after};
+ghost use Rattle.settling.specs.Settling.{limits_over, Settles, settled_by, extent_said, said_of_grown};
 
-use growth::{Grown, Limits};
+use growth::{Extent, Limits};
 use net::Counts;
 use refused::Refusal;
-use steps::How;
-
-// The half-edges and vertices in use when an entry is done.
-#[derive(Clone, Copy)]
-pub struct Extent {
-    pub halfedges: usize,
-    pub vertices: usize,
-}
+use steps::Stop;
 
 // The capacities over what is lent, and whether triangles have normals, and references.
 pub fn limits_of(
@@ -40,16 +32,6 @@ pub fn limits_of(
     }
 }
 
-// Steps that begin, with so many half-edges and vertices in use.
-pub fn begun(halfedges: usize, vertices: usize) -> Grown
-    ensures { result ≡ begun_with halfedges vertices }
-{
-    Grown {
-        halfedges: halfedges,
-        run: steps::begun(vertices),
-    }
-}
-
 // The rows of three of triangles a up to b read zero, where there are any.
 fn zero_faces<T: Copy>(rows: &mut [T], zero: T, there: bool, a: usize, b: usize)
     requires { (a ≤ b) × (there ≡ true → b ≤ lent_triples rows.old) }
@@ -60,7 +42,7 @@ fn zero_faces<T: Copy>(rows: &mut [T], zero: T, there: bool, a: usize, b: usize)
     }
 }
 
-// Ends an operation: where a step has refused, the rows in use come back from the spare and the free rows that were filled read zero.
+// Ends an operation: where the steps stopped, the rows in use come back from the spare and the free rows that were filled read zero.
 pub fn settle_grown(
     rows: &mut [i32],
     positions: &mut [u64],
@@ -71,17 +53,16 @@ pub fn settle_grown(
     halfedges: usize,
     vertices: usize,
     limits: Limits,
-    grown: Grown,
+    filled: Extent,
+    went: Result<(), Stop>,
 )
-    requires { Settles limits halfedges vertices rows.old positions.old normals.old references.old spare_halfedges.now spare_positions.now grown }
-    ensures { growing (middle rows.new positions.new grown.run) grown.halfedges normals.new references.new ≡ settled_by limits halfedges vertices spare_halfedges.now spare_positions.now (growing (middle rows.old positions.old grown.run) grown.halfedges normals.old references.old) }
+    requires { Settles limits halfedges vertices rows.old positions.old normals.old references.old spare_halfedges.now spare_positions.now filled }
+    ensures { so_far rows.new positions.new normals.new references.new (grown_after filled went) ≡ settled_by limits halfedges vertices spare_halfedges.now spare_positions.now (so_far rows.old positions.old normals.old references.old (grown_after filled went)) }
 {
-    let run = grown.run;
-    if !steps::refused(run) {
+    if went.is_ok() {
         return;
     }
-    let filled = grown.halfedges;
-    rows::halfedges::zero(rows, halfedges, filled);
+    rows::halfedges::zero(rows, halfedges, filled.halfedges);
     steps::settle(
         rows,
         positions,
@@ -89,23 +70,18 @@ pub fn settle_grown(
         spare_positions,
         halfedges,
         vertices,
-        run,
+        filled.vertices,
+        went,
     );
-    zero_faces(normals, 0, limits.normals, halfedges / 3, filled / 3);
-    zero_faces(references, 0, limits.references, halfedges / 3, filled / 3);
+    let triangles = filled.halfedges / 3;
+    zero_faces(normals, 0, limits.normals, halfedges / 3, triangles);
+    zero_faces(references, 0, limits.references, halfedges / 3, triangles);
 }
 
 // How the steps ended, as an entry says it.
-pub fn answer(grown: Grown) -> Result<Extent, Refusal>
-    ensures { extent_said result ≡ said_of_grown grown }
+pub fn answer(used: Extent, went: Result<(), Stop>) -> Result<Extent, Refusal>
+    ensures { extent_said result ≡ said_of_grown (grown_after used went) }
 {
-    let run = grown.run;
-    match run.how {
-        How::Going => Ok(Extent {
-            halfedges: grown.halfedges,
-            vertices: run.vertices,
-        }),
-        How::NoRoom => Err(Refusal::NoRoom),
-        How::Stopped => Err(Refusal::Stopped),
-    }
+    went?;
+    Ok(used)
 }

@@ -2,21 +2,18 @@
 use mathlib.Core.Path.{sym}
 use Rattle.numbers.proofs.NextLaws.{next_in}
 use Rattle.dedupe.specs.Dedupe.{copy_end}
-use Rattle.growth.proofs.More.{more_same}
 use Rattle.dedupe.proofs.copy_end.Goals as goal
 
 pub copy_round-requires : goal.copy_round-requires
 copy_round-requires c =
     let p = c.requires in
-    let b = next_in c.args.moved.place.0 c.args.moved.grown.halfedges p.0.0 p.1.0.thirds in
+    let b = next_in c.args.place.0 c.args.used.now.halfedges p.0.0 p.1.0.thirds in
     ((rw c.next.ensures b, p.0.1), p.1)
 
-pub returns-then-eq : goal.returns-then-eq
+pub returns-then-eq-clause-step : goal.returns-then-eq-clause-step
 unfolding copy_end
-returns-then-eq c =
-    (λ n f. rw (sym c.if-eq.ensures, ← c.next.ensures) (c.copy_round.ensures.0 n f), c.copy_round.ensures.1.1)
+returns-then-eq-clause-step c = λ n f. rw (sym c.if-eq.ensures, ← c.next.ensures) (c.copy_round.ensures.step n f)
 
-pub returns : goal.returns
+pub returns-clause-step : goal.returns-clause-step
 unfolding copy_end
-returns c =
-    (λ n f. rw (sym c.if-eq.ensures), (more_same _, c.requires.1))
+returns-clause-step c = λ n f. rw (sym c.if-eq.ensures)

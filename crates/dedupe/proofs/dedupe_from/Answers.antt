@@ -1,24 +1,19 @@
 -- `dedupe::dedupe_from` meets its contract: one step after the other.
-use native.Mathlib.Omega.{arith}
+use mathlib.Core.Path.{sym}
+use Rattle.std.proofs.lemmas.Result.{err_from_is_err_and}
+use Rattle.steps.proofs.Stops.{stop_refused}
+use Rattle.dedupe.proofs.Stops.{both_halted, second_halted}
 use Rattle.dedupe.proofs.dedupe_from.Goals as goal
 
-pub second-requires : goal.second-requires
-second-requires c =
-    let p = c.requires.0 in
-    let a = c.first-moved.ensures.1.1.0 in
-    let k = c.copy_end-copied.ensures.1 in
-    ((omega (arith, p.1.0, a.halfedges_grow, k.0.halfedges_grow), omega (arith, p.1.1.1, a.vertices_grow, k.0.vertices_grow)), k.1)
+pub returns-in_err-place-clause-step : goal.returns-in_err-place-clause-step
+returns-in_err-place-clause-step c =
+    let q = err_from_is_err_and c.from_residual.result c.from_residual.ensures.1 in
+    let a = rw c.in_err-place.was at c.first.ensures.step in
+    rw (q.1, q.2) (both_halted c.args.limits c.args.v.0 c.args.e.0 _ _ (stop_refused c.in_err-place.field-0.0) a)
 
-pub returns : goal.returns
-returns c =
-    let a = c.first-moved.ensures in
-    let k = c.copy_end-copied.ensures in
-    let z = c.second.ensures in
-    let n = c.first-moved.new.normals in
-    let f = c.first-moved.new.references in (
-      rw (z.0 n f, k.0 n f, a.0),
-      (
-        record { halfedges_grow = omega (arith, a.1.1.0.halfedges_grow, k.1.0.halfedges_grow, z.1.0.halfedges_grow); vertices_grow = omega (arith, a.1.1.0.vertices_grow, k.1.0.vertices_grow, z.1.0.vertices_grow) },
-        record { rows_fit = z.1.1.0; vertices_fit = z.1.1.1; faces_fit = a.1.1.1.faces_fit },
-      ),
-    )
+pub returns-in_err-copy_end-clause-step : goal.returns-in_err-copy_end-clause-step
+returns-in_err-copy_end-clause-step c =
+    let q = err_from_is_err_and c.from_residual-in_err-copy_end.result c.from_residual-in_err-copy_end.ensures.1 in
+    let a = rw c.in_ok-place.was at c.first.ensures.step in
+    let b = rw c.in_err-copy_end.was at (c.copy_end.ensures.step c.first.new.normals c.first.new.references) in
+    rw (q.1, q.2, ← a, ← b) (sym (second_halted c.args.limits c.args.v.0 c.args.e.0 _ (stop_refused c.in_err-copy_end.field-0.0)))

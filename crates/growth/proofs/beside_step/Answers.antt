@@ -1,17 +1,22 @@
 -- `growth::beside_step` meets its contract: one step after the other.
-use mathlib.Core.Path.{refl, ◌∙◌}
-use native.Mathlib.Omega.{arith}
+use mathlib.Core.Path.{refl, sym, ◌∙◌}
+use Rattle.std.proofs.lemmas.Result.{err_from_is_err_and}
+use Rattle.steps.proofs.Stops.{stop_refused}
 use Rattle.growth.specs.Growth.{beside}
+use Rattle.growth.proofs.Stops.{face_halted}
 use Rattle.growth.proofs.beside_step.Goals as goal
 
-pub add_face-requires : goal.add_face-requires
-add_face-requires c =
-    let p = c.requires in
-    let a = c.add_triangle-added.ensures.1 in
-    (p.1.1.1, λ z. let b = (a.1.1.1 z).1 in let w = a.1.0.within_capacity in omega (arith, c.number.ensures, b, w, p.0.0))
-
-pub returns : goal.returns
+pub returns-in_err-add_triangle-clause-step : goal.returns-in_err-add_triangle-clause-step
 unfolding beside
-returns c =
-    let a = c.add_triangle-added.ensures in
-    (λ p. c.add_face.ensures _ refl ∙ rw (c.number.ensures, a.0 p c.args.normals.now c.args.references.now), a.1)
+returns-in_err-add_triangle-clause-step c =
+    let s = c.args in
+    let q = err_from_is_err_and c.from_residual.result c.from_residual.ensures.1 in
+    let a = rw c.in_err-add_triangle.was at c.add_triangle.ensures.step in
+    let stop = c.in_err-add_triangle.field-0.0 in
+    λ p m. rw (q.1, q.2, ← a p m s.normals.now s.references.now) (sym (face_halted s.limits _ (stop_refused stop) _ _))
+
+pub returns-clause-step : goal.returns-clause-step
+unfolding beside
+returns-clause-step c =
+    let a = rw c.in_ok-add_triangle.was at c.add_triangle.ensures.step in
+    λ p m. c.add_face.ensures _ _ refl ∙ rw (c.number.ensures, a p m c.args.normals.now c.args.references.now)

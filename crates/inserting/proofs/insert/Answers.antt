@@ -1,31 +1,64 @@
 -- `inserting::insert` meets its contract: the copy, then the triangles.
-use mathlib.Core.Path.{ap}
 use native.Mathlib.Omega.{arith}
-use Rattle.steps.specs.Steps.{Middle}
-use Rattle.growth.specs.Growth.{growing}
-use Rattle.growth.proofs.Fit.{same_faces}
-use Rattle.inserting.specs.Inserting.{insert_from, insert}
+use Rattle.std.proofs.lemmas.Result.{err_from_is_err_and}
+use Rattle.numbers.proofs.NextLaws.{next_in}
+use Rattle.steps.proofs.Stops.{stop_refused}
+use Rattle.walks.specs.Walk.{onward}
+use Rattle.growth.specs.Growth.{copy_of}
+use Rattle.inserting.specs.Inserting.{insert}
 use Rattle.inserting.proofs.insert.Goals as goal
 
-pub insert_from-requires : goal.insert_from-requires
-insert_from-requires c =
-    let p = c.requires in
-    let f = p.1 in
-    let w = f.vertices_fit in
-    ((p.0.0, p.0.1.0), ((omega (arith, p.0.1.1, w.within_vertices, w.few_vertices), rw c.vertex_appended-x.ensures (omega (arith, w.within_vertices, w.few_vertices))), (f.rows_fit, f.faces_fit)))
+pub returns-in_err-append_copy-clause-step : goal.returns-in_err-append_copy-clause-step
+unfolding insert copy_of
+returns-in_err-append_copy-clause-step c =
+    let q = err_from_is_err_and c.from_residual.result c.from_residual.ensures.1 in
+    let a = rw c.in_err-append_copy.was at (c.append_copy.ensures.step c.args.rows.now) in
+    rw (q.1, q.2, ← a, stop_refused c.in_err-append_copy.field-0.0)
 
-pub returns : goal.returns
-unfolding insert
-returns c =
-    let i = c.insert_from.ensures in
-    let k = c.copy_of.ensures in
-    let s = c.args in (
-      rw (i.0 c.copy_of.new.positions, c.vertex_appended-x.ensures) (ap (λ (m : Middle). insert_from s.limits s.v.0 s.grown.run.vertices s.c.0 s.e.0 (growing m s.grown.halfedges s.normals.now s.references.now)) (k.0 s.rows.now)),
-      (
-        i.1.1.0,
-        (
-          record { halfedges_grow = i.1.1.1.0; vertices_grow = rw i.1.0 k.1.0 },
-          record { rows_fit = i.1.1.1.1; vertices_fit = rw i.1.0 k.1.1; faces_fit = same_faces _ _ _ _ _ c.requires.1.faces_fit c.insert_from.auto.normals c.insert_from.auto.references },
-        ),
-      ),
-    )
+pub pair_of-requires : goal.pair_of-requires
+pair_of-requires c =
+    let f = c.requires.1.rows_fit in
+    let b = next_in c.args.c.0 c.args.used.now.halfedges c.requires.0.0 f.thirds in
+    rw c.next.ensures (omega (arith, b, f.within_capacity, f.lent))
+
+pub returns-in_err-here-clause-step : goal.returns-in_err-here-clause-step
+unfolding insert copy_of onward
+returns-in_err-here-clause-step c =
+    let q = err_from_is_err_and c.from_residual-in_err-here.result c.from_residual-in_err-here.ensures.1 in
+    let a = rw c.in_ok-append_copy.was at (c.append_copy.ensures.step c.args.rows.now) in
+    let m = rw c.next.ensures at c.in_err-here.ensures.missing in
+    rw (q.1, q.2, m.1, ← a, m.0)
+
+pub pair_of-requires-2 : goal.pair_of-requires-2
+pair_of-requires-2 c =
+    let f = c.requires.1.rows_fit in
+    let b = next_in c.args.e.0 c.args.used.now.halfedges c.requires.0.1.0 f.thirds in
+    rw c.next-2.ensures (omega (arith, b, f.within_capacity, f.lent))
+
+pub returns-in_err-other-clause-step : goal.returns-in_err-other-clause-step
+unfolding insert copy_of onward
+returns-in_err-other-clause-step c =
+    let q = err_from_is_err_and c.from_residual-in_err-other.result c.from_residual-in_err-other.ensures.1 in
+    let a = rw c.in_ok-append_copy.was at (c.append_copy.ensures.step c.args.rows.now) in
+    let h = rw c.next.ensures at c.in_ok-here.ensures.there in
+    let m = rw c.next-2.ensures at c.in_err-other.ensures.missing in
+    rw (q.1, q.2, m.1, ← a, h.0, m.0)
+
+pub returns-in_err-insert_at-clause-step : goal.returns-in_err-insert_at-clause-step
+unfolding insert copy_of onward
+returns-in_err-insert_at-clause-step c =
+    let q = err_from_is_err_and c.from_residual-in_err-insert_at.result c.from_residual-in_err-insert_at.ensures.1 in
+    let a = rw c.in_ok-append_copy.was at (c.append_copy.ensures.step c.args.rows.now) in
+    let h = rw c.next.ensures at c.in_ok-here.ensures.there in
+    let o = rw c.next-2.ensures at c.in_ok-other.ensures.there in
+    let i = rw (c.in_err-insert_at.was, c.vertex_appended-x.ensures) at c.insert_at.ensures.step in
+    rw (q.1, q.2, ← a, h.0, o.0) (i c.append_copy.new.positions c.append_copy.new.vertices)
+
+pub returns-clause-step : goal.returns-clause-step
+unfolding insert copy_of onward
+returns-clause-step c =
+    let a = rw c.in_ok-append_copy.was at (c.append_copy.ensures.step c.args.rows.now) in
+    let h = rw c.next.ensures at c.in_ok-here.ensures.there in
+    let o = rw c.next-2.ensures at c.in_ok-other.ensures.there in
+    let i = rw (c.in_ok-insert_at.was, c.vertex_appended-x.ensures) at c.insert_at.ensures.step in
+    rw (← a, h.0, o.0, ← i c.append_copy.new.positions c.append_copy.new.vertices)
