@@ -55,6 +55,14 @@ third_word = 32 ∷ 116 ∷ 104 ∷ 105 ∷ 114 ∷ 100 ∷ 61 ∷ []
 abbrev pub work_name : List ℕ
 work_name = 119 ∷ 111 ∷ 114 ∷ 107 ∷ []
 
+-- list
+abbrev pub list_name : List ℕ
+list_name = 108 ∷ 105 ∷ 115 ∷ 116 ∷ []
+
+-- visit
+abbrev pub visit_name : List ℕ
+visit_name = 118 ∷ 105 ∷ 115 ∷ 105 ∷ 116 ∷ []
+
 -- spare_halfedges
 abbrev pub spare_halfedges_name : List ℕ
 spare_halfedges_name = 115 ∷ 112 ∷ 97 ∷ 114 ∷ 101 ∷ 95 ∷ 104 ∷ 97 ∷ 108 ∷ 102 ∷ 101 ∷ 100 ∷ 103 ∷ 101 ∷ 115 ∷ []
@@ -116,9 +124,12 @@ collapsed_said entry number row vertices length limit = answered entry number ++
 abbrev pub spares_said : List ℤ → List ℕ → List (List ℕ)
 spares_said spare_halfedges spare_positions = listed signed_pieces spare_halfedges_name spare_halfedges ++ (listed plain spare_positions_name spare_positions)
 
--- a work buffer, by how its elements are put, and a list under its name
-abbrev pub buffers_said : {A : Type 0} → (A → List (List ℕ)) → List A → List ℕ → List ℕ → List (List ℕ)
-buffers_said pieces work name list = listed pieces work_name work ++ (listed plain name list)
+-- a work buffer, by how its elements are put, and a list; a work buffer and a visit list
+abbrev pub buffers_said : {A : Type 0} → (A → List (List ℕ)) → List A → List ℕ → List (List ℕ)
+buffers_said pieces work list = listed pieces work_name work ++ (listed plain list_name list)
+
+abbrev pub visits_said : List ℕ → List ℕ → List (List ℕ)
+visits_said work visit = listed plain work_name work ++ (listed plain visit_name visit)
 
 abbrev pub arrays_said : List ℤ → List ℕ → List ℕ → List ℤ → List ℕ → List (List ℕ)
 arrays_said halfedges positions normals references properties = listed signed_pieces halfedges_name halfedges ++ (listed plain positions_name positions ++ (listed plain normals_name normals ++ (listed signed_pieces references_name references ++ (listed plain properties_name properties))))

@@ -2,7 +2,7 @@
 #![tactic(auto, using(texts::proofs::Puts::puts_then), unfolding(texts::specs::Put::puts))]
 
 ghost use Rattle.calltext.specs.Page.{Puts};
-ghost use Rattle.answertext.specs.Said.{answer_said, row_said, lengths_said, next_said, corners_said, split_said, owners_said, vertices_said, grown_said, collapsed_said, spares_said, buffers_said, arrays_said};
+ghost use Rattle.answertext.specs.Said.{answer_said, row_said, lengths_said, next_said, corners_said, split_said, owners_said, vertices_said, grown_said, collapsed_said, spares_said, buffers_said, visits_said, arrays_said};
 
 use calltext::show::{Page, Showable};
 
@@ -129,12 +129,20 @@ pub fn spares(page: &mut Page, spare_halfedges: &[i32], spare_positions: &[u64])
     page.list(b"spare_positions", spare_positions);
 }
 
-// A work buffer and a named list as they are left.
-pub fn buffers<T: Showable>(page: &mut Page, work: &[T], name: &[u8], list: &[u32])
-    ensures { Puts (buffers_said T.pieces work.now name.now list.now) page.old page.new }
+// A work buffer and a list as they are left.
+pub fn buffers<T: Showable>(page: &mut Page, work: &[T], list: &[u32])
+    ensures { Puts (buffers_said T.pieces work.now list.now) page.old page.new }
 {
     page.list(b"work", work);
-    page.list(name, list);
+    page.list(b"list", list);
+}
+
+// A work buffer and a visit list as they are left.
+pub fn visits(page: &mut Page, work: &[u32], visit: &[u32])
+    ensures { Puts (visits_said work.now visit.now) page.old page.new }
+{
+    page.list(b"work", work);
+    page.list(b"visit", visit);
 }
 
 // The five arrays as they are left.

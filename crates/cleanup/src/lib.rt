@@ -52,7 +52,7 @@ fn clean_at(
     rows::triples::copy(positions, spare_positions, vertices);
     let said = split::split_sound(rows, positions, work, list, halfedges, vertices);
     let split = Grown {
-        halfedges: halfedges,
+        halfedges,
         run: after_split(said, vertices, limits.vertices),
     };
     let grown = dedupeedges::rounds_settled(

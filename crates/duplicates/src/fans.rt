@@ -27,8 +27,8 @@ impl<'a> Fan<'a> {
         ensures { (rest result ≡ fan halfedges rows.now (halfedge_number i)) × Walks result }
     {
         Fan {
-            rows: rows,
-            halfedges: halfedges,
+            rows,
+            halfedges,
             home: i,
             left: halfedges,
             at: Some(i),

@@ -137,7 +137,7 @@ pub fn split_pinched_verts(rt: &impl Print, stored: &mut Stored, net: &mut Lent)
         )
     })?;
     print(rt, &mut [0u8; BUFFERS], |page| {
-        answertext::buffers(page, work, b"visit", visit)
+        answertext::visits(page, work, visit)
     })
 }
 
@@ -169,7 +169,7 @@ pub fn orbit_owners(
     print(
         rt,
         &mut [0u8; BUFFERS],
-        |page| answertext::buffers(page, work, b"list", list),
+        |page| answertext::buffers(page, work, list),
     )
 }
 

@@ -206,8 +206,7 @@ module _ (e : Eligible) (c : Counts) (n : Net) (work list : List ℕ) where
       front q = ap (λ (x : OwnersOutcome). take (length (owners e H rows)) x.list) q ∙ take_at (owners e H rows) (drop (length (owners e H rows)) list) (length (owners e H rows)) refl
 
 -- ---- two results agree
--- the answer, read back from what is said
-abbrev pub owners_agree : (e : Eligible) (c : Counts) (n : Net) (work list : List ℕ) (a b : Result ℕ Refusal) (w w' l l' : List ℕ)
+pub owners_agree : (e : Eligible) (c : Counts) (n : Net) (work list : List ℕ) (a b : Result ℕ Refusal) (w w' l l' : List ℕ)
     → owners_outcome (owners_said a) w l ≡ orbit_owners e c n work list → owners_outcome (owners_said b) w' l' ≡ orbit_owners e c n work list
     → (a ≡ b) × (w ≡ w') × (l ≡ l')
 owners_agree e c n work list a b w w' l l' p q =

@@ -139,7 +139,7 @@ where
     print_grown(rt, entry, told.into())?;
     print_spares(rt, spare_halfedges, spare_positions)?;
     print(rt, &mut [0u8; BUFFERS], |page| {
-        answertext::buffers(page, work, b"list", list)
+        answertext::buffers(page, work, list)
     })
 }
 
