@@ -10,6 +10,7 @@ use lib.IntN.{ℤ}
 use lib.ListN.{length, take, drop, replicate, length-append, length-replicate}
 use lib.Seq.{drop_at, length-take-le}
 use Rattle.laws.specs.Stretches.{cleared}
+use Rattle.laws.proofs.Stretches.{drop_more, filled_beyond}
 use Rattle.rows.specs.Triples.{lent_triples, triples_from, zero_triples}
 use Rattle.rows.proofs.Threes.{length_zeroed_triples}
 use Rattle.net.specs.declared.Counts.{Counts}
@@ -139,3 +140,15 @@ module _ (l : Limits) (H N : ℕ) (rows : List ℤ) (positions normals : List �
             work_is = z.work_is;
             list_free = ap (drop H) z.visit_is;
           }
+
+  -- and beyond what it writes
+  pub work_beyond : {left : List ℕ} → left ≡ o.work → drop (l.halfedges + N) left ≡ drop (l.halfedges + N) work
+  work_beyond e = drop_more (H + N) (l.halfedges + N) _ work (omega (arith, f.rows_fit.within_capacity)) (ap (drop (H + N)) (e ∙ splits.work_is) ∙ filled_beyond 0 (H + N) work)
+
+  pub list_beyond : {left : List ℕ} → left ≡ o.visit → drop l.halfedges left ≡ drop l.halfedges list
+  list_beyond e = drop_more H l.halfedges _ list f.rows_fit.within_capacity (ap (drop H) e ∙ splits.list_free)
+
+  -- the same behind the rounds
+  pub rounds_beyond : {left visit : List ℕ} (later done : List ℕ) → left ≡ o.work → visit ≡ o.visit → (drop l.halfedges later ≡ drop l.halfedges left) × (drop l.halfedges done ≡ drop l.halfedges visit) →
+      (drop (l.halfedges + N) later ≡ drop (l.halfedges + N) work) × (drop l.halfedges done ≡ drop l.halfedges list)
+  rounds_beyond later done e q b = (drop_more l.halfedges (l.halfedges + N) later _ (omega arith) b.0 ∙ work_beyond e, b.1 ∙ list_beyond q)

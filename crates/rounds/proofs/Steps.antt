@@ -102,3 +102,8 @@ module _ (l : Limits) where
   unfolding rounds
   rounds_halted zero w t b = by_test (eqb w.used 0) (λ u. absurd (let z = eqb-true w.used 0 u in omega (arith, b, z))) (λ u. rw u)
   rounds_halted (suc n) w t b = rw t
+
+  pub rounds_stops : (n : ℕ) (w : Growing) → halted w ≡ true → w ≡ (rounds l n w).growing
+  unfolding rounds
+  rounds_stops zero w t = refl
+  rounds_stops (suc n) w t = rw t

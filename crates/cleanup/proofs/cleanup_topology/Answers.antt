@@ -8,24 +8,13 @@ use Rattle.net.specs.Net.{net}
 use Rattle.net.proofs.Shape.{shaped_yes, within}
 use Rattle.splitting.proofs.Net.{sound_rows}
 use Rattle.split.proofs.Entry.{none_out, sound_here}
-use Rattle.std.proofs.lemmas.Result.{err_from_is_err_and}
-use Rattle.refused.proofs.Laws.{refused_number}
 use Rattle.settling.proofs.Entry.{begun_fits}
-use Rattle.cleanup.specs.Cleanup.{cleanup_topology}
 use Rattle.cleanup.proofs.cleanup_topology.Goals as goal
-
-pub returns-then-not-shaped : goal.returns-then-not-shaped
-unfolding cleanup_topology
-returns-then-not-shaped c = rw (← c.shaped.ensures, c.if-not-shaped.true)
 
 pub overflow_add-capacity : goal.overflow_add-capacity
 overflow_add-capacity c =
     let f = begun_fits _ _ (shaped_yes _ _ (sym c.shaped.ensures ∙ c.if-not-shaped.false)) in
     rw c.limits_of-limits.ensures (omega (arith, f.rows_fit.few, f.vertices_fit.within_vertices, f.vertices_fit.few_vertices))
-
-pub returns-then-not-enough : goal.returns-then-not-enough
-unfolding cleanup_topology
-returns-then-not-enough c = rw (← c.shaped.ensures, c.if-not-shaped.false, ← (rw c.limits_of-limits.ensures at c.enough.ensures), c.if-not-enough.true)
 
 pub check_rows-requires : goal.check_rows-requires
 check_rows-requires c =
@@ -41,15 +30,3 @@ clean_at-requires c =
     let u = and2 _ _ t.0 in
     let v = and2 _ _ u.0 in
     ((sound_rows s.counts n o, rw c.limits_of-limits.ensures), ((rw c.limits_of-limits.ensures (begun_fits _ _ o.shaped)), record { halfedges_spared = leb-true _ _ v.0; positions_spared = leb-true _ _ v.1; capacity_long = omega arith; work_long = leb-true _ _ u.1; list_long = leb-true _ _ t.1 }))
-
-pub returns-in_err-check_rows : goal.returns-in_err-check_rows
-unfolding cleanup_topology
-returns-in_err-check_rows c =
-    let p = err_from_is_err_and c.from_residual.result c.from_residual.ensures.1 in
-    rw (p.1, p.2, ← c.shaped.ensures, c.if-not-shaped.false, ← (rw c.limits_of-limits.ensures at c.enough.ensures), c.if-not-enough.false, ← (rw c.in_err-check_rows.was at c.check_rows.ensures), refused_number c.in_err-check_rows.field-0.0)
-
-pub returns : goal.returns
-unfolding cleanup_topology
-returns c =
-    rw (← c.shaped.ensures, c.if-not-shaped.false, ← (rw c.limits_of-limits.ensures at c.enough.ensures), c.if-not-enough.false, ← (rw c.in_ok-check_rows.was at c.check_rows.ensures))
-    (rw c.limits_of-limits.ensures at c.clean_at.ensures)
