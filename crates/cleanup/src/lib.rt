@@ -89,16 +89,9 @@ fn clean_at(
 {
     rows::halfedges::copy(rows, spare_halfedges, halfedges);
     rows::triples::copy(positions, spare_positions, vertices);
-<<<<<<< HEAD
-    let said = split::split_sound(rows, positions, work, list, halfedges, vertices);
-    let split = Grown {
-        halfedges,
-        run: after_split(said, vertices, limits.vertices),
-=======
     let mut used = Extent {
         halfedges,
         vertices,
->>>>>>> b06e57fe99cdef3296f1271365ca524d09141038
     };
     let went = clean_step(
         rows, positions, normals, references, work, list, &mut used, limits,
