@@ -1,5 +1,5 @@
--- What a call says: document 01's number, and the values that come with it. Each entry's answer is an enum of its own;
--- a definition beside it takes each of its cases to one of these, and the entry's contract is about what is said.
+-- What a call says: document 01's number, and the values that come with it. Each entry gives what was done, or a refusal, of which there is
+-- one enum (crate refused); definitions take both to one of these, and the entry's contract is about what is said.
 use Rattle.std.specs.Prelude.{ℕ, zero, suc, List, [], ◌∷◌, ℤ, pos, negsuc, Float}
 
 -- a half-edge, a row or a count; a squared length or a limit
