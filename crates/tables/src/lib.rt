@@ -94,7 +94,8 @@ fn is_done(rows: &[i32], work: &[u32], h: Halfedge) -> bool
         | !(edgetests::is_started(rows, h) & edgetests::is_ended(rows, h))
 }
 
-// The fan of h, where some vertex was entered twice: those that are not the least at their end are listed behind the entries. How many entries there are then.
+// The fan of h, where some vertex was entered twice: those that are not the least at their end are listed behind the entries. How many
+// entries there are then.
 fn push_if_twice(
     rows: &[i32],
     work: &[u32],
