@@ -7,8 +7,8 @@ ghost use Rattle.refused.specs.Refused.{count_said};
 ghost use Rattle.settling.specs.Settling.{extent_said};
 ghost use Rattle.repairtold.specs.Told.{edge_told, edges_told, cleanup_told, collapse_told};
 
-use refused::Refusal;
 use growth::Extent;
+use refused::Refusal;
 
 // How many half-edges and vertices are in use afterwards.
 #[repr(C)]
