@@ -1,10 +1,10 @@
 -- Where the steps have stopped, what grows a net leaves everything as it is.
-use mathlib.Core.Path.{◌≡◌}
+use mathlib.Core.Path.{◌≡◌, ap}
 use mathlib.Core.Bool.{true}
-use Prim.Native.Nat.{ℕ, ◌/◌}
+use Prim.Native.Nat.{ℕ}
 use Rattle.steps.specs.Steps.{Middle, refused}
 use Rattle.growth.specs.declared.Limits.{Limits}
-use Rattle.growth.specs.Growth.{Growing, halted, add, join, face, beside, relabel, copy_of, copy_round}
+use Rattle.growth.specs.Growth.{Growing, growing, halted, add, join, face, beside, relabel, copy_of, copy_round}
 
 pub relabel_halted : (H x h : ℕ) (m : Middle) → refused m ≡ true → relabel H x h m ≡ m
 unfolding relabel
@@ -29,8 +29,8 @@ module _ (l : Limits) (w : Growing) (t : halted w ≡ true) where
 
   pub beside_halted : (a b h e : ℕ) → beside l a b h e w ≡ w
   unfolding beside
-  beside_halted a b h e = rw (add_halted a b h e, join_halted w.used h, face_halted (h / 3) (w.used / 3))
+  beside_halted a b h e = rw (add_halted a b h e, join_halted w.used h) (face_halted _ _)
 
   pub round_halted : (v h : ℕ) → copy_round l v h w ≡ w
   unfolding copy_round
-  round_halted v h = rw (copy_halted l.vertices v w.middle t, relabel_halted w.used w.middle.run.vertices h w.middle t)
+  round_halted v h = rw (copy_halted l.vertices v w.middle t) (ap (λ (m : Middle). growing m w.used w.normals w.references) (relabel_halted _ _ _ w.middle t))

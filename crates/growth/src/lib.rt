@@ -3,7 +3,6 @@
 
 ghost use Rattle.std.specs.Prelude.{◌≡◌, true, false, cond, List, ℕ, ◌+◌, ◌*◌, ◌/◌, ◌<◌, ◌≤◌, ◌^◌, ℤ, IfOk};
 ghost use Rattle.numbers.specs.Numbers.{halfedge_number, vertex_number};
-ghost use Rattle.rows.specs.Halfedges.{lent_halfedges};
 ghost use Rattle.rows.specs.Triples.{lent_triples, triple, put_triple, reference, put_reference};
 ghost use Rattle.steps.specs.Steps.{Middle, middle, begin, run_after, refused, InUse};
 ghost use Rattle.growth.specs.Growth.{growing, grown_after, so_far, beginning, Fits, FacesFit, VerticesFit, More, add, join, face, beside, relabel, copy_round};

@@ -2,7 +2,7 @@
 // fill the gap that opens.
 #![tactic(auto)]
 
-ghost use Rattle.std.specs.Prelude.{◌≡◌, List, ℕ, ◌+◌, ◌<◌, ◌≤◌, ◌^◌, ℤ, IfOk};
+ghost use Rattle.std.specs.Prelude.{◌≡◌, List, ℕ, ◌+◌, ◌<◌, ◌≤◌, ◌^◌, IfOk};
 ghost use Rattle.numbers.specs.Numbers.{halfedge_number, vertex_number};
 ghost use Rattle.steps.specs.Steps.{middle, begin, run_after};
 ghost use Rattle.growth.specs.Growth.{growing, beginning, Fits, FacesFit, Fitting, More};

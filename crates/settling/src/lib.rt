@@ -4,7 +4,6 @@
 
 ghost use Rattle.std.specs.Prelude.{◌≡◌, true, cond, ◌*◌, ◌/◌, ◌≤◌};
 ghost use Rattle.laws.specs.Stretches.{filled};
-ghost use Rattle.rows.specs.Halfedges.{lent_halfedges};
 ghost use Rattle.rows.specs.Triples.{lent_triples};
 ghost use Rattle.growth.specs.Growth.{so_far, grown_after};
 ghost use Rattle.settling.specs.Settling.{limits_over, Settles, settled_by, extent_said, said_of_grown};
