@@ -4,7 +4,6 @@ use mathlib.Core.Bool.{true}
 use Prim.Native.Nat.{ℕ}
 use lib.Dec.{eqb}
 use Rattle.laws.proofs.Tests.{by_test}
-use Rattle.numbers.specs.Next.{next}
 use Rattle.growth.specs.declared.Limits.{Limits}
 use Rattle.growth.specs.Growth.{Growing, halted}
 use Rattle.growth.proofs.Stops.{round_halted}
@@ -17,7 +16,7 @@ module _ (l : Limits) (v e : ℕ) where
 
   end_halted : (s : Stood) → halted s.growing ≡ true → copy_end l v e s ≡ s.growing
   unfolding copy_end
-  end_halted s t = by_test (eqb s.place e) (λ u. rw u (round_halted l s.growing t v (next s.place))) (λ u. rw u)
+  end_halted s t = by_test (eqb s.place e) (λ u. rw u (round_halted l s.growing t v _)) (λ u. rw u)
 
   pub both_halted : (s : Stood) (w : Growing) → halted w ≡ true → w ≡ s.growing → w ≡ second l v e (copy_end l v e s)
   both_halted s w t q =

@@ -62,7 +62,7 @@ pub fn insert(
     requires { ((halfedge_number c < used.old.halfedges) × ((halfedge_number e < used.old.halfedges) × (vertex_number v < used.old.vertices))) × Fitting limits (beginning rows.old positions.old normals.old references.old used.old) }
     ensures step { Stands rows.new positions.new normals.new references.new used.new result (insert limits (vertex_number v) (halfedge_number c) (halfedge_number e) (beginning rows.old positions.old normals.old references.old used.old)) }
     ensures within { More used.old used.new × Fitting limits (beginning rows.new positions.new normals.new references.new used.new) }
-    ensures place { IfOk result (λ h. halfedge_number h < used.new.halfedges) }
+    ensures place { IfOk result (λ h. halfedge_number h < used.old.halfedges) }
 {
     let x = numbers::vertex_appended(used.vertices);
     loops::append_copy(positions, &mut used.vertices, limits.vertices, v)?;
