@@ -41,10 +41,3 @@ impl From<u64> for Entry {
         }
     }
 }
-
-impl Entry {
-    // Whether it works on a net, of which the arrays are told as they are left.
-    pub fn takes_net(self) -> bool {
-        !matches!(self, Entry::NextHalfedge | Entry::TriOf | Entry::ShortTest)
-    }
-}

@@ -88,7 +88,8 @@ fn call(rt: &impl Print, stored: &mut Stored) -> io::Result<()> {
         choice,
     };
     run(rt, entry, stored, &mut net, &asked)?;
-    if entry.takes_net() {
+    // the others have no net
+    if !matches!(entry, Entry::NextHalfedge | Entry::TriOf | Entry::ShortTest) {
         let (_, halfedges, positions, normals, references, properties) = net.parts();
         print(rt, &mut [0u8; BUFFERS], |page| {
             answertext::arrays(page, halfedges, positions, normals, references, properties)
