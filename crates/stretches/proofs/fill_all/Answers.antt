@@ -1,5 +1,5 @@
 -- `stretches::fill_all` meets its contract: the law of a filling loop, over the whole.
-use Rattle.std.proofs.Common.{◌≡◌, ◌-◌, length, ◌≤◌, arith, append-nil, ◌∙◌}
+use Rattle.std.proofs.Common.{◌≡◌, ◌-◌, length, arith, append-nil, ◌∙◌}
 use Rattle.std.proofs.Math.Seq.{drop-length}
 use Rattle.laws.proofs.Loops.{filling_begins, filling_on, filling_done}
 use Rattle.stretches.proofs.fill_all.Goals as goal
