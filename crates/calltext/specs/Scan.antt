@@ -1,5 +1,5 @@
 -- Numbers read from text, in which whatever is no digit and no minus sign stands between them.
-use Rattle.std.specs.Prelude.{ℕ, zero, suc, ◌+◌, ◌*◌, ◌%◌, ◌^◌, Bool, true, false, cond, ◌&&◌, ◌||◌, List, [], ◌∷◌, length, take, drop, ℤ, pos, negsuc, ◌-ℤ◌, ◌==◌, nat_le, nat_lt, slice_index, slice_set}
+use Rattle.std.specs.Prelude.{ℕ, zero, suc, ◌+◌, ◌*◌, ◌%◌, ◌^◌, Bool, true, false, cond, ◌&&◌, ◌||◌, List, [], ◌∷◌, length, drop, ℤ, pos, negsuc, ◌-ℤ◌, ◌==◌, nat_le, nat_lt, slice_index, slice_set}
 use Rattle.calltext.specs.declared.scan.Scanned.{Scanned}
 use Rattle.calltext.specs.declared.scan.Listed.{Listed}
 
@@ -63,6 +63,10 @@ byte_of s = up_to 255 s.magnitude
 abbrev pub room : ℕ → ℕ → ℕ
 room count long = cond (nat_lt count long) count long
 
+-- so many numbers were read, and the place behind them
+abbrev pub listed_to : ℕ → ℕ → Listed
+listed_to n at = record { length = n; next = at }
+
 module _ {A : Type 0} (of : Scanned → A) (file : List ℕ) where
   -- n numbers put from the place k on, and the place behind them
   unfoldable pub fill : ℕ → ℕ → ℕ → List A → List A × ℕ
@@ -75,10 +79,3 @@ module _ {A : Type 0} (of : Scanned → A) (file : List ℕ) where
 
   abbrev pub list_from : ℕ → List A → List A × Listed
   list_from at into = list_filled (room (number_from file at).magnitude (length into)) (number_from file at).next into
-
--- of a list that was read: its elements, and the place behind it
-abbrev pub read_of : {A : Type 0} → List A × Listed → List A
-read_of (into, listed) = take listed.length into
-
-abbrev pub place_of : {A : Type 0} → List A × Listed → ℕ
-place_of (into, listed) = listed.next

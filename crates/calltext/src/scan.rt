@@ -1,6 +1,6 @@
 // Numbers read from text: whatever is no digit and no minus sign stands between them.
 ghost use Rattle.std.specs.Prelude.{◌≡◌, ◌≤◌, length};
-ghost use Rattle.calltext.specs.Scan.{begins, first_from, with_digit, digits_at, number_from, signed_of, count_of, word_of, byte_of, list_from, read_of, place_of};
+ghost use Rattle.calltext.specs.Scan.{begins, first_from, with_digit, digits_at, number_from, signed_of, count_of, word_of, byte_of, listed_to, list_from};
 
 // A number, and the place behind it.
 #[derive(Clone, Copy)]
@@ -168,14 +168,14 @@ impl Stored<'_> {
         scanned
     }
 
-    // The next list, as much of it as the buffer has room for.
-    pub fn list<'b, T: Readable>(&mut self, buffer: &'b mut [T]) -> &'b mut [T]
+    // Reads the next list into a buffer, as much of it as there is room for. How much that is.
+    pub fn list<T: Readable>(&mut self, into: &mut [T]) -> usize
         ensures file { self.new.file ≡ self.old.file }
-        ensures read { result.now ≡ read_of (list_from T.read_as self.old.file.now self.old.at buffer.old) }
-        ensures place { self.new.at ≡ place_of (list_from T.read_as self.old.file.now self.old.at buffer.old) }
+        ensures filled { (into.new, listed_to result self.new.at) ≡ list_from T.read_as self.old.file.now self.old.at into.old }
+        ensures within { result ≤ length into.new }
     {
-        let listed = list(self.file, self.at, buffer);
+        let listed = list(self.file, self.at, into);
         self.at = listed.next;
-        &mut buffer[..listed.length]
+        listed.length
     }
 }

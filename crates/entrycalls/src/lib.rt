@@ -120,8 +120,11 @@ pub fn remove_if_folded(rt: &impl Print, net: &mut Lent, asked: &Asked) -> io::R
 pub fn split_pinched_verts(rt: &impl Print, stored: &mut Stored, net: &mut Lent) -> io::Result<()> {
     let mut work = [0u32; 512];
     let mut visit = [0u32; 512];
-    let work = stored.list(&mut work);
-    let visit = stored.list(&mut visit);
+    let mut out = [0u8; BUFFERS];
+    let read = stored.list(&mut work);
+    let work = &mut work[..read];
+    let read = stored.list(&mut visit);
+    let visit = &mut visit[..read];
     let (used, halfedges, positions, normals, references, properties) = net.parts();
     let told = station::spoonferret_split_pinched_verts(
         used, halfedges, positions, normals, references, properties, work, visit,
@@ -136,9 +139,7 @@ pub fn split_pinched_verts(rt: &impl Print, stored: &mut Stored, net: &mut Lent)
             told.steps,
         )
     })?;
-    print(rt, &mut [0u8; BUFFERS], |page| {
-        answertext::visits(page, work, visit)
-    })
+    print(rt, &mut out, |page| answertext::visits(page, work, visit))
 }
 
 pub fn orbit_owners(
@@ -149,8 +150,11 @@ pub fn orbit_owners(
 ) -> io::Result<()> {
     let mut work = [0u8; 512];
     let mut list = [0u32; 512];
-    let work = stored.list(&mut work);
-    let list = stored.list(&mut list);
+    let mut out = [0u8; BUFFERS];
+    let read = stored.list(&mut work);
+    let work = &mut work[..read];
+    let read = stored.list(&mut list);
+    let list = &mut list[..read];
     let (used, halfedges, positions, normals, references, properties) = net.parts();
     let told = station::spoonferret_orbit_owners(
         used,
@@ -166,11 +170,7 @@ pub fn orbit_owners(
     print(rt, &mut [0u8; ANSWER], |page| {
         answertext::owners(page, b"orbit_owners", told.number, told.count)
     })?;
-    print(
-        rt,
-        &mut [0u8; BUFFERS],
-        |page| answertext::buffers(page, work, list),
-    )
+    print(rt, &mut out, |page| answertext::buffers(page, work, list))
 }
 
 pub fn form_loop(
@@ -181,8 +181,10 @@ pub fn form_loop(
 ) -> io::Result<()> {
     let mut spare_halfedges = [0i32; 1024];
     let mut spare_positions = [0u64; 512];
-    let spare_halfedges = stored.list(&mut spare_halfedges);
-    let spare_positions = stored.list(&mut spare_positions);
+    let read = stored.list(&mut spare_halfedges);
+    let spare_halfedges = &mut spare_halfedges[..read];
+    let read = stored.list(&mut spare_positions);
+    let spare_positions = &mut spare_positions[..read];
     let (used, halfedges, positions, normals, references, properties) = net.parts();
     let [first, second, ..] = asked.numbers;
     let told = station::spoonferret_form_loop(

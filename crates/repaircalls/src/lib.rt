@@ -72,8 +72,10 @@ pub fn dedupe_edge(
 ) -> io::Result<()> {
     let mut spare_halfedges = [0i32; 512];
     let mut spare_positions = [0u64; 256];
-    let spare_halfedges = stored.list(&mut spare_halfedges);
-    let spare_positions = stored.list(&mut spare_positions);
+    let read = stored.list(&mut spare_halfedges);
+    let spare_halfedges = &mut spare_halfedges[..read];
+    let read = stored.list(&mut spare_positions);
+    let spare_positions = &mut spare_positions[..read];
     let (used, halfedges, positions, normals, references, properties) = net.parts();
     let [halfedge, ..] = asked.numbers;
     let told = station::spoonferret_dedupe_edge(
@@ -119,10 +121,15 @@ where
     let mut spare_positions = [0u64; 256];
     let mut work = [0u32; 512];
     let mut list = [0u32; 512];
-    let spare_halfedges = stored.list(&mut spare_halfedges);
-    let spare_positions = stored.list(&mut spare_positions);
-    let work = stored.list(&mut work);
-    let list = stored.list(&mut list);
+    let mut out = [0u8; BUFFERS];
+    let read = stored.list(&mut spare_halfedges);
+    let spare_halfedges = &mut spare_halfedges[..read];
+    let read = stored.list(&mut spare_positions);
+    let spare_positions = &mut spare_positions[..read];
+    let read = stored.list(&mut work);
+    let work = &mut work[..read];
+    let read = stored.list(&mut list);
+    let list = &mut list[..read];
     let (used, halfedges, positions, normals, references, properties) = net.parts();
     let told = call(
         used,
@@ -138,9 +145,7 @@ where
     );
     print_grown(rt, entry, told.into())?;
     print_spares(rt, spare_halfedges, spare_positions)?;
-    print(rt, &mut [0u8; BUFFERS], |page| {
-        answertext::buffers(page, work, list)
-    })
+    print(rt, &mut out, |page| answertext::buffers(page, work, list))
 }
 
 pub fn dedupe_edges(rt: &impl Print, stored: &mut Stored, net: &mut Lent) -> io::Result<()> {
@@ -172,9 +177,13 @@ pub fn collapse_edge(
     let mut spare_halfedges = [0i32; 512];
     let mut spare_positions = [0u64; 256];
     let mut list = [0u32; 512];
-    let spare_halfedges = stored.list(&mut spare_halfedges);
-    let spare_positions = stored.list(&mut spare_positions);
-    let list = stored.list(&mut list);
+    let mut out = [0u8; BUFFERS];
+    let read = stored.list(&mut spare_halfedges);
+    let spare_halfedges = &mut spare_halfedges[..read];
+    let read = stored.list(&mut spare_positions);
+    let spare_positions = &mut spare_positions[..read];
+    let read = stored.list(&mut list);
+    let list = &mut list[..read];
     let (used, halfedges, positions, normals, references, properties) = net.parts();
     let [halfedge, first_new_vert, ..] = asked.numbers;
     let [tol, epsilon, ..] = asked.floats;
@@ -205,5 +214,5 @@ pub fn collapse_edge(
         )
     })?;
     print_spares(rt, spare_halfedges, spare_positions)?;
-    print(rt, &mut [0u8; BUFFERS], |page| page.list(b"list", list))
+    print(rt, &mut out, |page| page.list(b"list", list))
 }

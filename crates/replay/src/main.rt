@@ -54,6 +54,14 @@ fn run(
     }
 }
 
+// The arrays as a call leaves them.
+fn leave(rt: &impl Print, net: &mut Lent) -> io::Result<()> {
+    let (_, halfedges, positions, normals, references, properties) = net.parts();
+    print(rt, &mut [0u8; BUFFERS], |page| {
+        answertext::arrays(page, halfedges, positions, normals, references, properties)
+    })
+}
+
 // One call, and the arrays as it leaves them where it works on a net.
 fn call(rt: &impl Print, stored: &mut Stored) -> io::Result<()> {
     let entry = Entry::from(stored.number().magnitude);
@@ -66,11 +74,16 @@ fn call(rt: &impl Print, stored: &mut Stored) -> io::Result<()> {
     let mut numbers = [0i32; 8];
     let mut floats = [0u64; 12];
     stored.list(&mut counts);
-    let halfedges = stored.list(&mut halfedges);
-    let positions = stored.list(&mut positions);
-    let normals = stored.list(&mut normals);
-    let references = stored.list(&mut references);
-    let properties = stored.list(&mut properties);
+    let read = stored.list(&mut halfedges);
+    let halfedges = &mut halfedges[..read];
+    let read = stored.list(&mut positions);
+    let positions = &mut positions[..read];
+    let read = stored.list(&mut normals);
+    let normals = &mut normals[..read];
+    let read = stored.list(&mut references);
+    let references = &mut references[..read];
+    let read = stored.list(&mut properties);
+    let properties = &mut properties[..read];
     stored.list(&mut numbers);
     stored.list(&mut floats);
     let choice = stored.number().magnitude == 1;
@@ -90,10 +103,7 @@ fn call(rt: &impl Print, stored: &mut Stored) -> io::Result<()> {
     run(rt, entry, stored, &mut net, &asked)?;
     // the others have no net
     if !matches!(entry, Entry::NextHalfedge | Entry::TriOf | Entry::ShortTest) {
-        let (_, halfedges, positions, normals, references, properties) = net.parts();
-        print(rt, &mut [0u8; BUFFERS], |page| {
-            answertext::arrays(page, halfedges, positions, normals, references, properties)
-        })?;
+        leave(rt, &mut net)?;
     }
     Ok(())
 }
