@@ -37,7 +37,7 @@ impl<'a> Fan<'a> {
 }
 
 // Where the walk from `home` goes on from c, with so many turns left.
-fn turn_on(
+pub fn turn_on(
     rows: &[i32],
     halfedges: usize,
     home: Halfedge,

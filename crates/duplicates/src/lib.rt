@@ -13,6 +13,7 @@ ghost use Rattle.duplicates.specs.Scan.{entries, push, push_all, picked, is_pass
 pub mod fans;
 
 use fans::Fan;
+pub use fans::turn_on;
 use numbers::Halfedge;
 
 // The end of h is one of `vertices`.
